@@ -1,0 +1,264 @@
+-- The rows of every reading that goes to the end meet the table rule. Assumes nothing.
+use mathlib.Core.Path.{_≡_, refl, ap, _∙_}
+use mathlib.Core.Bool.{Bool, true, false}
+use mathlib.Core.List.{List, [], _∷_, _++_, append-assoc, append-nil}
+use Prim.Native.Nat.{ℕ, zero, suc, _+_, _-_, _*_, _≤_, _<_, zero-le}
+use native.Mathlib.Nat.{le-trans}
+use native.Mathlib.Omega.{arith}
+use lib.ListN.{length, take, drop, length-append, length-take, length-drop}
+use lib.Seq.{take-append-seam}
+use lib.Dec.{ltb}
+use borrow.Author.Tests.{ltb-true}
+use Rattle.octets.specs.Choice.{pick}
+use Rattle.octets.specs.Answers.{longest, deepest, done}
+use Rattle.unfolding.specs.Unfold.{unfolded}
+use Rattle.unfolding.proofs.Laws.{length-unfolded}
+use Rattle.lines.specs.Split.{contentLen, lineLen, linesAfter}
+use Rattle.lines.specs.Rule.{lineOf}
+use Rattle.lines.specs.declared.Line.{Line}
+use Rattle.lines.specs.declared.Line.the-variants.{Empty, Begin, BadBegin, End, Content, Bad}
+use Rattle.lines.specs.declared.Property.{Property}
+use Rattle.lines.proofs.Split.{content-within}
+use Rattle.lines.proofs.Sound.{Sound, SoundProperty, sound}
+use Rattle.octets.specs.declared.Span.{Span}
+use Rattle.tables.specs.Rows.{noParent, flat, rowAt, rowsOf}
+use Rattle.tables.specs.TableRule.{Opened, componentFits, opensAfter, propertyFits, brokenComponent, brokenProperty, broken}
+use Rattle.tables.specs.declared.ComponentRow.{ComponentRow}
+use Rattle.tables.specs.declared.PropertyRow.{PropertyRow}
+use Rattle.tables.specs.declared.ParameterRow.{ParameterRow}
+use Rattle.tables.specs.declared.Found.the-variants.{Nothing}
+use Rattle.tables.proofs.Laws.{Shape, length-flat, rows-exact, component-shape, property-shape, parameter-shape}
+use Rattle.tables.proofs.Rule.{on, ended, Meets, not-broken}
+use Rattle.nesting.specs.Rows.{entry, top, componentRow, propertyRow, parameterRows}
+use Rattle.nesting.specs.declared.Check.{Check}
+use Rattle.nesting.specs.Steps.{State, nothing, inside, checkOf, closed, after, Run, finished, onward, run, runOf}
+use Rattle.nesting.specs.declared.Entry.{Entry}
+use Rattle.nesting.specs.declared.Refusal.{Refusal}
+use Rattle.reading.specs.declared.Reading.{Reading}
+use Rattle.demands.specs.Lent.{Lent, readInto, left, toldOf, brokenIn}
+use Rattle.demands.specs.Readable.{Readable, ReadTo}
+use Rattle.demands.proofs.Readable.{done-readable}
+use Rattle.demands.proofs.Chains.{chain, Falling, Last, fewer, falling-last, first-below}
+use Rattle.demands.proofs.Chains.Falling.{none, next}
+use Rattle.demands.proofs.Chains.Last.{all}
+use Rattle.demands.proofs.RowsFit.{component-parents, component-fits, property-fits, ParametersOn, parameters-fit}
+
+-- what has been read from a text of T bytes up to `at` meets the rule so far: it holds of its rows together with any rows behind them, if it holds
+-- of these where they stand. A row behind may name one of `known` as its parent, and the open components are the last of these.
+record Meeting (T at : ℕ) (s : State) (known : List Opened) : Type 0 where
+  components : (rest : List ComponentRow) → brokenComponent T (length (s .components)) known rest ≡ Nothing
+      → brokenComponent T 0 [] (s .components ++ rest) ≡ Nothing
+  properties : (n : ℕ) → length (s .components) ≤ n → (rest : List PropertyRow) → ((row : ℕ) → brokenProperty T n row rest ≡ Nothing)
+      → (row : ℕ) → brokenProperty T n row (s .properties ++ rest) ≡ Nothing
+  parameters : (n : ℕ) → length (s .properties) ≤ n → (rest : List ParameterRow) → ParametersOn T n (length (s .properties)) rest
+      → ParametersOn T n 0 (s .parameters ++ rest)
+  opens : Last (chain (s .opens)) known
+  falling : Falling (length (s .components)) known
+  few : length (s .components) ≤ at
+
+abbrev Met : ℕ → ℕ → State → Type 0
+Met T at s = (known : List Opened) × Meeting T at s known
+
+start : (T : ℕ) → Met T 0 nothing
+start T = (
+  [],
+  record {
+    components = λ rest h. h;
+    properties = λ n l rest h. h;
+    parameters = λ n l rest h. h;
+    opens = all;
+    falling = none;
+    few = zero-le;
+  },
+)
+
+further : {T at : ℕ} (at′ : ℕ) {s : State} → at ≤ at′ → Met T at s → Met T at′ s
+further at′ h (known, m) = (
+  known,
+  record {
+    components = m .components;
+    properties = m .properties;
+    parameters = m .parameters;
+    opens = m .opens;
+    falling = m .falling;
+    few = le-trans (m .few) h;
+  },
+)
+
+-- what a line adds to s
+abbrev begun : State → ℕ → Span → Entry
+begun s at name = entry (length (s .components)) at name
+
+abbrev componentOf : State → ℕ → Span → ComponentRow
+componentOf s at name = componentRow (top (s .opens)) (length (s .opens) + 1) (begun s at name)
+
+abbrev propertyOf : State → ℕ → Property → PropertyRow
+propertyOf s at p = propertyRow (top (s .opens)) at p
+
+module _ {T at : ℕ} (s : State) {known : List Opened} (m : Meeting T at s known) where
+  -- END: one less is open
+  closing : Meeting T at (record { opens = closed (s .opens); components = s .components; properties = s .properties; parameters = s .parameters }) known
+  closing =
+      record {
+        components = m .components;
+        properties = m .properties;
+        parameters = m .parameters;
+        opens = go (s .opens) (m .opens);
+        falling = m .falling;
+        few = m .few;
+      }
+    where
+      go : (es : List Entry) → Last (chain es) known → Last (chain (closed es)) known
+      go [] l = l
+      go (e ∷ es) l = fewer l
+
+  module _ (line : List ℕ) (fits : at + length line ≤ T) (short : at ≤ noParent) where
+    -- BEGIN: a component more, and it is open
+    module _ (name : Span) (sound : Sound line (Begin name)) (deep : length (s .opens) < deepest) where
+      one-component : length (s .components ++ componentOf s at name ∷ []) ≡ length (s .components) + 1
+      one-component = length-append (s .components) (componentOf s at name ∷ [])
+
+      few-rows : length (s .components) ≤ noParent
+      few-rows = omega (arith, m .few)
+
+      component-on : (rest : List ComponentRow) → brokenComponent T (length (s .components) + 1) (chain (begun s at name ∷ s .opens)) rest ≡ Nothing
+          → brokenComponent T (length (s .components)) known (componentOf s at name ∷ rest) ≡ Nothing
+      component-on rest h =
+          on (componentFits T) opensAfter (length (s .components)) known (componentOf s at name ∷ rest) rest (componentOf s at name) refl
+          (component-fits T (s .opens) (m .opens) (m .falling) few-rows (begun s at name) (omega (arith, sound .0, sound .1)) deep)
+          ∙ rw (component-parents T (s .opens) (m .opens) (m .falling) few-rows (begun s at name)) h
+
+      begin : Meeting T (at + length line) (after at line (Begin name) s) (chain (begun s at name ∷ s .opens))
+      begin =
+          let below : length (s .components) < length (s .components ++ componentOf s at name ∷ []) = omega (arith, one-component) in
+          record {
+            components = λ rest h. rw append-assoc (m .components (componentOf s at name ∷ rest) (component-on rest (rw one-component at h)));
+            properties = λ n l. m .properties n (omega arith);
+            parameters = m .parameters;
+            opens = all;
+            falling = next below (falling-last (m .opens) (m .falling));
+            few = omega (arith, one-component, m .few, sound .1);
+          }
+
+    -- a property more, with its parameters
+    module _ (p : Property) (sound : SoundProperty line p) (within : inside Check.Fine (s .opens) ≡ Check.Fine) where
+      one-property : length (s .properties ++ propertyOf s at p ∷ []) ≡ length (s .properties) + 1
+      one-property = length-append (s .properties) (propertyOf s at p ∷ [])
+
+      owner : (es : List Entry) → Last (chain es) known → inside Check.Fine es ≡ Check.Fine → top es < length (s .components)
+      owner [] l w = absurd (let z : _≡_ {A = ℕ} 0 1 = cc in omega arith)
+      owner (e ∷ es) l w = first-below l (m .falling)
+
+      property-on : (n : ℕ) → length (s .components) ≤ n → (rest : List PropertyRow) → ((row : ℕ) → brokenProperty T n row rest ≡ Nothing)
+          → (row : ℕ) → brokenProperty T n row (propertyOf s at p ∷ rest) ≡ Nothing
+      property-on n l rest h row =
+          on (λ (seen : Bool). propertyFits T n) (λ row seen p. seen) row true (propertyOf s at p ∷ rest) rest (propertyOf s at p) refl
+          (property-fits T n (top (s .opens)) at line p sound fits (le-trans (owner (s .opens) (m .opens) within) l))
+          ∙ h (row + 1)
+
+      parameters-on : (n : ℕ) → length (s .properties ++ propertyOf s at p ∷ []) ≤ n → (rest : List ParameterRow)
+          → ParametersOn T n (length (s .properties ++ propertyOf s at p ∷ [])) rest
+          → ParametersOn T n (length (s .properties)) (parameterRows (length (s .properties)) at line p ++ rest)
+      parameters-on n l rest h =
+          parameters-fit T n (length (s .properties)) (omega (arith, one-property)) (at + p .key .len) 0 (drop (p .key .len) line)
+          (omega (arith, length-drop (p .key .len) line, sound .fewer)) rest
+          (λ row before b. h row before (omega (arith, one-property)))
+
+      content : Meeting T (at + length line) (after at line (Content p) s) known
+      content =
+          record {
+            components = m .components;
+            properties = λ n l rest h row. rw append-assoc (m .properties n l (propertyOf s at p ∷ rest) (property-on n l rest h) row);
+            parameters =
+                λ n l rest h row before b.
+                rw append-assoc
+                (m .parameters n (omega (arith, one-property)) (parameterRows (length (s .properties)) at line p ++ rest) (parameters-on n l rest h) row before b);
+            opens = m .opens;
+            falling = m .falling;
+            few = omega (arith, m .few);
+          }
+
+-- a BEGIN that may stand where it does is not too deep
+deep : (es : List Entry) → pick (ltb (length es) deepest) Check.Fine (Check.Bad Refusal.TooDeep) ≡ Check.Fine → length es < deepest
+deep es c = go (ltb (length es) deepest) refl c
+  where
+    go : (t : Bool) → ltb (length es) deepest ≡ t → pick t Check.Fine (Check.Bad Refusal.TooDeep) ≡ Check.Fine → length es < deepest
+    go true x c = ltb-true (length es) deepest x
+    go false x c = absurd (let z : _≡_ {A = ℕ} 0 1 = cc in omega arith)
+
+-- any line that may stand where it does
+step : {T at : ℕ} (s : State) → Met T at s → (text line : List ℕ) → at + length line ≤ T → at ≤ noParent
+    → (l : Line) → Sound line l → checkOf text line l (s .opens) ≡ Check.Fine → Met T (at + length line) (after at line l s)
+step s m text line fits short Empty o c = further _ (omega arith) m
+step {T} {at} s (known, m) text line fits short (Begin name) o c =
+    (chain (begun s at name ∷ s .opens), begin s m line fits short name o (deep (s .opens) c))
+step s m text line fits short BadBegin o c = further _ (omega arith) m
+step s (known, m) text line fits short (End rest) o c = further _ (omega arith) (known, closing s m)
+step s (known, m) text line fits short (Content p) o c = (known, content s m line fits short p o c)
+step s m text line fits short (Bad fault) o c = further _ (omega arith) m
+
+-- ---- all lines
+
+-- at the end no rows are behind
+met : {T at : ℕ} {s : State} → Met T at s → 0 < length (s .components) → Meets T (s .components) (s .properties) (s .parameters)
+met {T} {at} {s} (known, m) some =
+    record {
+      some = some;
+      components-fit = rw append-nil at (m .components [] (ended _ _ _ _ [] refl));
+      properties-fit = rw append-nil at (m .properties (length (s .components)) (omega arith) [] (λ row. ended _ _ row _ [] refl) (length (s .components)));
+      parameters-fit =
+          rw append-nil at
+          (m .parameters (length (s .properties)) (omega arith) [] (λ row before b. ended _ _ row before [] refl)
+          (length (s .components) + length (s .properties)) 0 zero-le);
+    }
+
+goes-on : (c : Check) (place : ℕ) (r : Run) (s : State) → onward c place r ≡ finished s → (c ≡ Check.Fine) × (r ≡ finished s)
+goes-on Check.Fine place r s e = (refl, e)
+goes-on (Check.Bad x) place r s e = absurd (let z : _≡_ {A = ℕ} 0 1 = cc in omega arith)
+
+all-lines : (text : List ℕ) (T : ℕ) → T ≤ longest → (at k : ℕ) (xs : List ℕ) → at + length xs ≤ T → (s end : State)
+    → Met T (at + k) s → run text (linesAfter at k xs) s ≡ finished end → 0 < length (end .components)
+    → Meets T (end .components) (end .properties) (end .parameters)
+unfolding run linesAfter
+all-lines text T short at k [] h s end m e some = let q : s ≡ end = cc in rw (← q) (met m (rw q some))
+all-lines text T short at zero (x ∷ xs) h s end m e some =
+    let line : List ℕ = take (contentLen (x ∷ xs)) (x ∷ xs) in
+    let g = goes-on (checkOf text line (lineOf line) (s .opens)) at (run text (linesAfter (at + 1) (lineLen (x ∷ xs) - 1) xs) (after at line (lineOf line) s)) end e in
+    let n : length line ≤ lineLen (x ∷ xs) = omega (arith, length-take (contentLen (x ∷ xs)) (x ∷ xs), content-within (x ∷ xs)) in
+    let n′ : length line ≤ length (x ∷ xs) = omega (arith, length-take (contentLen (x ∷ xs)) (x ∷ xs)) in
+    let next = step s (further at (omega arith) m) text line (omega arith) (omega arith) (lineOf line) (sound line) (g .0) in
+    all-lines text T short (at + 1) (lineLen (x ∷ xs) - 1) xs (omega arith) (after at line (lineOf line) s) end
+    (further (at + 1 + (lineLen (x ∷ xs) - 1)) (omega arith) next) (g .1) some
+all-lines text T short at (suc k) (x ∷ xs) h s end m e some =
+    all-lines text T short (at + 1) k xs (omega arith) s end (further (at + 1 + k) (omega arith) m) e some
+
+-- a text within the byte limit that is read to the end, with at least one component, gives tables that break no rule
+pub meets-rule : (text : List ℕ) (s : State) → length text ≤ longest → runOf text ≡ finished s → 0 < length (s .components)
+    → broken (length text) (s .components) (s .properties) (s .parameters) ≡ Nothing
+meets-rule text s short e some =
+    not-broken (length text) (s .components) (s .properties) (s .parameters)
+    (all-lines text (length text) short 0 0 text (omega arith) nothing s (start (length text)) e some)
+
+-- so every readable feed gives tables that break no rule
+pub readable-meets : {feed : List ℕ} {s : State} → Readable feed s → broken (length (unfolded feed)) (s .components) (s .properties) (s .parameters) ≡ Nothing
+readable-meets {feed} {s} r = meets-rule (unfolded feed) s (omega (arith, r .short, length-unfolded feed)) (r .reads) (r .some)
+
+-- and the bytes and rows that a reading answered Done leaves at the front of the buffers, lent on by themselves, break none
+pub done-meets : (feed : List ℕ) (b : Lent) → readInto feed b .answer ≡ done → brokenIn (toldOf (readInto feed b) (left feed b)) ≡ Nothing
+done-meets feed b e = go (done-readable feed b e .0) (done-readable feed b e .1) (done-readable feed b e .2)
+  where
+    front : {A : Type 0} {size : ℕ} {words : A → List ℕ} {from : List ℕ → ℕ → A} → Shape size words from → (rows : List A) (n : ℕ) (new rest : List ℕ)
+        → n ≡ length rows → new ≡ flat words rows ++ rest → rowsOf size (rowAt size from) (take (size * n) new) ≡ rows
+    front shape rows n new rest c h = rw (h, c, ← length-flat shape rows, take-append-seam) (rows-exact shape rows)
+
+    go : (s : State) → Readable feed s → ReadTo feed b s → brokenIn (toldOf (readInto feed b) (left feed b)) ≡ Nothing
+    go s r t =
+        rw (
+          front component-shape (s .components) (readInto feed b .components) (left feed b .components) _ (ap (λ (r : Reading). r .components) (t .numbers)) (t .components),
+          front property-shape (s .properties) (readInto feed b .properties) (left feed b .properties) _ (ap (λ (r : Reading). r .properties) (t .numbers)) (t .properties),
+          front parameter-shape (s .parameters) (readInto feed b .parameters) (left feed b .parameters) _ (ap (λ (r : Reading). r .parameters) (t .numbers)) (t .parameters),
+          t .text,
+          ap (λ (r : Reading). r .length) (t .numbers),
+          take-append-seam,
+        )
+        (readable-meets r)

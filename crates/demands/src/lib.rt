@@ -1,0 +1,1 @@
+// The demands: theorems over the definitions of all crates. It has no code of its own.

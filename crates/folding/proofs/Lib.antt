@@ -1,0 +1,3 @@
+pub mod Strict
+pub mod Repository
+pub mod Answers

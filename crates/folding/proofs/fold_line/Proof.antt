@@ -1,0 +1,64 @@
+-- `folding::fold_line`: a refusal of the line, a refusal for room, or the line folded.
+use borrow.Author.Needs.{needs}
+use lib.ListN.{length}
+use Rattle.octets.proofs.Answers.{kept, written}
+use Rattle.folding.specs.Repository.{repository}
+use Rattle.folding.proofs.Repository.{repository-length}
+use Rattle.folding.proofs.Answers.{refused, folded}
+use Rattle.folding.proofs.fold_line.Statement.{statement}
+use Rattle.folding.proofs.fold_line.Tie as tie
+
+check-line-requires : tie.Need-check-line-requires
+check-line-requires c κs = search needs
+
+returns : tie.Need-returns
+returns c =
+    let a = c .before .before .before .before .before .args in
+    let line = a .line .now in
+    let old = a .out .now in
+    kept (refused repository line (length old) (c .before .before .check-line .ensures) (c .if1 .taken)) (repository line) old (c .if1 .taken)
+
+slice-aggregate-fold-repository : tie.Need-slice-aggregate-fold-repository
+slice-aggregate-fold-repository c = search needs
+
+fold-repository-requires : tie.Need-fold-repository-requires
+fold-repository-requires c κs = search needs
+
+room-for-requires : tie.Need-room-for-requires
+room-for-requires c κs = search needs
+
+returns-2 : tie.Need-returns-2
+returns-2 c =
+    let s = c .before .before .before .before .before .before in
+    let line = s .before .before .before .before .before .args .line .now in
+    let old = s .before .before .before .before .before .args .out .now in
+    kept (folded repository line (length old) (s .before .before .check-line .ensures) (s .if1 .left) (repository-length line) (c .before .before .before .before .fold-repository .ensures .0) (c .before .before .room-for .ensures))
+    (repository line) old (c .if2 .taken)
+
+fold-repository-requires-2 : tie.Need-fold-repository-requires-2
+fold-repository-requires-2 c κs = search needs
+
+same-length : tie.Need-same-length
+same-length c = search needs
+
+returns-3 : tie.Need-returns-3
+returns-3 c =
+    let s = c .before .before .before .before .before .before .before .before .before .before in
+    let line = s .before .before .before .before .before .args .line .now in
+    let old = s .before .before .before .before .before .args .out .now in
+    written (folded repository line (length old) (s .before .before .check-line .ensures) (s .if1 .left) (repository-length line) (c .before .before .before .before .before .before .before .before .fold-repository .ensures .0) (c .before .before .before .before .before .before .room-for .ensures))
+    (repository line) old (c .before .before .before .before .if2 .left) (c .before .before .fold-repository2 .ensures .1)
+
+pub fold-line-spec : {M : Type 1} → statement M
+fold-line-spec =
+    tie.close
+    (tie.spec
+    check-line-requires
+    returns
+    slice-aggregate-fold-repository
+    fold-repository-requires
+    room-for-requires
+    returns-2
+    fold-repository-requires-2
+    same-length
+    returns-3)

@@ -1,0 +1,105 @@
+-- `folding::fold_piece`: what is laid so far, and what is to come, are the piece folded.
+use native.Mathlib.Omega.{arith}
+use mathlib.Core.Path.{_≡_, _∙_}
+use Prim.Native.Nat.{ℕ, _+_, _-_}
+use Rattle.folding.specs.declared.Column.{Column}
+use Rattle.folding.specs.declared.Folded.{Folded}
+use lib.ListN.{length}
+use borrow.Author.Needs.{needs}
+use Rattle.folding.proofs.Strict.{Folding, begin, turn, finish}
+use Rattle.folding.proofs.fold_piece.Statement.{statement}
+use Rattle.folding.proofs.fold_piece.Tie as tie
+
+same : {c : Column} {n left m : ℕ} → c .left ≡ left → n ≡ m
+    → _≡_ {A = Folded} (record { column = c; length = n }) (record { column = record { left = left }; length = m })
+same {c} {n} {left} {m} p q = rw (← p, q)
+
+abbrev Inv-loop : tie.InvT-loop
+Inv-loop piece out₀ left₀ at₀ n₀ out left at n = Folding out₀ out piece left₀ left at n
+
+abbrev μ-loop : tie.MeasureT-loop
+μ-loop piece out₀ left₀ at₀ n₀ out left at n = length piece - at + (1 - left)
+
+loop-holds : tie.Need-loop-holds Inv-loop μ-loop
+loop-holds c = begin (c .before .before .args .out .now) (c .before .before .args .piece .now) (c .before .before .args .column .left)
+
+sub-loop : tie.Need-sub-loop Inv-loop μ-loop
+sub-loop c = omega arith
+
+add-next : tie.Need-add-next Inv-loop μ-loop
+add-next c = omega arith
+
+sub-lay-line : tie.Need-sub-lay-line Inv-loop μ-loop
+sub-lay-line c = omega arith
+
+part-lay-line-start : tie.Need-part-lay-line-start Inv-loop μ-loop
+part-lay-line-start c = omega arith
+
+part-lay-line-end : tie.Need-part-lay-line-end Inv-loop μ-loop
+part-lay-line-end c = omega arith
+
+lay-line-requires : tie.Need-lay-line-requires Inv-loop μ-loop
+lay-line-requires c κs = tt
+
+loop-less : tie.Need-loop-less Inv-loop μ-loop
+loop-less c = omega arith
+
+loop-again : tie.Need-loop-again Inv-loop μ-loop
+loop-again c =
+    turn (c .before .before .before .before .before .before .loop .inv) (c .before .before .before .before .before .loop-test .taken) (omega arith)
+    (c .before .before .lay-line .ensures .0) (c .before .before .lay-line .ensures .1)
+
+sub-lay : tie.Need-sub-lay Inv-loop μ-loop
+sub-lay c = omega arith
+
+part-lay-start : tie.Need-part-lay-start Inv-loop μ-loop
+part-lay-start c = omega arith
+
+part-lay-end : tie.Need-part-lay-end Inv-loop μ-loop
+part-lay-end c = omega arith
+
+lay-requires : tie.Need-lay-requires Inv-loop μ-loop
+lay-requires c κs = tt
+
+sub-new : tie.Need-sub-new Inv-loop μ-loop
+sub-new c = omega arith
+
+sub-new-2 : tie.Need-sub-new-2 Inv-loop μ-loop
+sub-new-2 c = omega arith
+
+new-requires : tie.Need-new-requires Inv-loop μ-loop
+new-requires c κs = tt
+
+same-length : tie.Need-same-length Inv-loop μ-loop
+same-length c = search needs
+
+returns : tie.Need-returns Inv-loop μ-loop
+returns c =
+    let e = finish (c .before .before .before .before .before .before .before .loop .inv) (c .before .before .before .before .before .before .loop-test .left)
+    (c .before .before .before .lay .ensures .0) (c .before .before .before .lay .ensures .1) in
+    (same (c .new .ensures ∙ e .0) (e .1 .0), e .1 .1)
+
+pub fold-piece-spec : {M : Type 1} → statement M
+fold-piece-spec =
+    tie.close
+    (tie.spec
+    Inv-loop
+    μ-loop
+    loop-holds
+    sub-loop
+    add-next
+    sub-lay-line
+    part-lay-line-start
+    part-lay-line-end
+    lay-line-requires
+    loop-less
+    loop-again
+    sub-lay
+    part-lay-start
+    part-lay-end
+    lay-requires
+    sub-new
+    sub-new-2
+    new-requires
+    same-length
+    returns)

@@ -1,0 +1,72 @@
+-- `folding::fold_strict`: a refusal of the line, a refusal for room, or the line folded.
+use borrow.Author.Needs.{needs}
+use mathlib.Core.Path.{ap}
+use lib.ListN.{length}
+use Rattle.octets.proofs.Answers.{kept, written}
+use Rattle.folding.specs.Strict.{first, strict}
+use Rattle.folding.specs.declared.Folded.{Folded}
+use Rattle.folding.proofs.Strict.{fold-length}
+use Rattle.folding.proofs.Answers.{refused, folded}
+use Rattle.folding.proofs.fold_strict.Statement.{statement}
+use Rattle.folding.proofs.fold_strict.Tie as tie
+
+check-line-requires : tie.Need-check-line-requires
+check-line-requires c κs = search needs
+
+returns : tie.Need-returns
+returns c =
+    let a = c .before .before .before .before .before .args in
+    let line = a .line .now in
+    let old = a .out .now in
+    kept (refused strict line (length old) (c .before .before .check-line .ensures) (c .if1 .taken)) (strict line) old (c .if1 .taken)
+
+new-requires : tie.Need-new-requires
+new-requires c κs = search needs
+
+slice-aggregate-fold-piece : tie.Need-slice-aggregate-fold-piece
+slice-aggregate-fold-piece c = search needs
+
+fold-piece-requires : tie.Need-fold-piece-requires
+fold-piece-requires c κs = search needs
+
+room-for-requires : tie.Need-room-for-requires
+room-for-requires c κs = search needs
+
+returns-2 : tie.Need-returns-2
+returns-2 c =
+    let s = c .before .before .before .before .before .before .before in
+    let line = s .before .before .before .before .before .args .line .now in
+    let old = s .before .before .before .before .before .args .out .now in
+    let n = rw (c .before .before .before .before .before .before .new .ensures) at (ap (λ (f : Folded). f .length) (c .before .before .before .before .fold-piece .ensures .0)) in
+    kept (folded strict line (length old) (s .before .before .check-line .ensures) (s .if1 .left) (fold-length first line) n (c .before .before .room-for .ensures))
+    (strict line) old (c .if2 .taken)
+
+fold-piece-requires-2 : tie.Need-fold-piece-requires-2
+fold-piece-requires-2 c κs = search needs
+
+same-length : tie.Need-same-length
+same-length c = search needs
+
+returns-3 : tie.Need-returns-3
+returns-3 c =
+    let s = c .before .before .before .before .before .before .before .before .before .before .before in
+    let line = s .before .before .before .before .before .args .line .now in
+    let old = s .before .before .before .before .before .args .out .now in
+    let n = rw (c .before .before .before .before .before .before .before .before .before .before .new .ensures) at (ap (λ (f : Folded). f .length) (c .before .before .before .before .before .before .before .before .fold-piece .ensures .0)) in
+    written (folded strict line (length old) (s .before .before .check-line .ensures) (s .if1 .left) (fold-length first line) n (c .before .before .before .before .before .before .room-for .ensures))
+    (strict line) old (c .before .before .before .before .if2 .left) (rw (c .before .before .before .before .before .before .before .before .before .before .new .ensures) at (c .before .before .fold-piece2 .ensures .1))
+
+pub fold-strict-spec : {M : Type 1} → statement M
+fold-strict-spec =
+    tie.close
+    (tie.spec
+    check-line-requires
+    returns
+    new-requires
+    slice-aggregate-fold-piece
+    fold-piece-requires
+    room-for-requires
+    returns-2
+    fold-piece-requires-2
+    same-length
+    returns-3)

@@ -1,0 +1,4 @@
+pub mod Pieces
+pub mod Strict
+pub mod Repository
+pub mod Answers

@@ -1,0 +1,30 @@
+-- A folded line as its pieces: the bytes of each physical line without what the fold adds (RFC 5545, section 3.1, "folding").
+-- Assumes nothing.
+use Prim.Native.Nat.{ℕ, _≤_}
+use lib.ListN.{length}
+use mathlib.Core.List.{List, [], _∷_, _++_, map}
+use Rattle.octets.specs.Bytes.{cr, lf, space}
+
+-- what stands between two pieces: CRLF and a space
+abbrev pub brk : List ℕ
+brk = cr ∷ lf ∷ space ∷ []
+
+-- each piece behind a break
+unfoldable pub broken : List (List ℕ) → List ℕ
+broken [] = []
+broken (p ∷ ps) = brk ++ (p ++ broken ps)
+
+-- the first piece as it is, each later one behind a break
+abbrev pub joined : List (List ℕ) → List ℕ
+joined [] = []
+joined (p ∷ ps) = p ++ broken ps
+
+-- the physical lines without their breaks: each later piece behind its space
+abbrev pub physical : List (List ℕ) → List (List ℕ)
+physical [] = []
+physical (p ∷ ps) = p ∷ map (λ (q : List ℕ). space ∷ q) ps
+
+-- none of them has more bytes than this
+unfoldable pub Within : ℕ → List (List ℕ) → Type 0
+Within width [] = Unit {0}
+Within width (p ∷ ps) = (length p ≤ width) × Within width ps

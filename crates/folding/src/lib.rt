@@ -1,0 +1,193 @@
+// The two folds of a line: the strict one of RFC 5545, section 3.1, which the writer uses, and the repository's.
+ghost use mathlib.Core.Path.{_≡_};
+ghost use Prim.Native.Nat.{_+_, _<_};
+ghost use lib.ListN.{length};
+ghost use mathlib.Core.List.{_++_};
+ghost use Rattle.octets.specs.Laid.{laid, laidFrom, counted};
+ghost use Rattle.octets.specs.Runs.{run, only};
+ghost use Rattle.folding.specs.Pieces.{brk};
+ghost use Rattle.folding.specs.Strict.{units, foldedUnits, foldedPiece, strict};
+ghost use Rattle.folding.specs.Repository.{cut, repository};
+ghost use Rattle.folding.specs.Answers.{ascii, lineAnswer, foldAnswer, foldOut};
+use octets::Output;
+
+// How many octets the present physical line still takes.
+pub struct Column {
+    pub left: usize,
+}
+
+impl Column {
+    // The octets of the first physical line.
+    pub const FIRST: usize = 75;
+
+    // The octets of each later one, without its space.
+    pub const LATER: usize = 74;
+
+    pub fn new(left: usize) -> Self
+        ensures { λ r. ⌜ r .left ≡ left ⌝ }
+    {
+        Self { left }
+    }
+}
+
+// A piece folded: where the next one goes on, and the octets, with their breaks.
+pub struct Folded {
+    pub column: Column,
+    pub length: usize,
+}
+
+// Lays a piece and the break behind it.
+fn lay_line(piece: &[u8], out: &mut [u8], at: usize) -> usize
+    ensures { λ r. ⌜ (r ≡ counted (at + length (now (piece .entry) ++ brk))) × (now (out .exit) ≡ laidFrom at (now (piece .entry) ++ brk) (now (out .entry))) ⌝ }
+{
+    let end = octets::lay(piece, out, at);
+    octets::lay(b"\r\n ", out, end)
+}
+
+// Folds a piece of a line strictly, from the column on, over the front of the buffer.
+pub fn fold_piece(column: Column, piece: &[u8], out: &mut [u8]) -> Folded
+    ensures { λ r. ⌜ r ≡ foldedPiece (column .left) (now (piece .entry)) ⌝ }
+    ensures { λ r. ⌜ now (out .exit) ≡ laid (foldedUnits (column .left) (units (now (piece .entry)))) (now (out .entry)) ⌝ }
+{
+    let mut left = column.left;
+    let mut at: usize = 0;
+    let mut length: usize = 0;
+    while left < piece.len() - at {
+        let next = at + left;
+        length = lay_line(&piece[at..next], out, length);
+        at = next;
+        left = Column::LATER;
+    }
+    length = octets::lay(&piece[at..], out, length);
+    Folded {
+        column: Column::new(left - (piece.len() - at)),
+        length,
+    }
+}
+
+// How far on the repository cuts: at the width, or a byte before it where the byte there is white.
+fn cut_at(width: usize, rest: &[u8]) -> usize
+    requires { ⌜ (0 < width) × (width < length (now rest)) ⌝ }
+    ensures { λ r. ⌜ r ≡ cut width (now (rest .entry)) ⌝ }
+{
+    let before = width - 1;
+    let b = rest[width];
+    let white = ((9 <= b) & (b <= 13)) | (b == b' ');
+    if white {
+        return before;
+    }
+    width
+}
+
+// Folds a line as the repository does, over the front of the buffer.
+fn fold_repository(line: &[u8], out: &mut [u8]) -> usize
+    ensures { λ r. ⌜ (r ≡ counted (length (repository (now (line .entry))))) × (now (out .exit) ≡ laid (repository (now (line .entry))) (now (out .entry))) ⌝ }
+{
+    let mut width = Column::FIRST;
+    let mut at: usize = 0;
+    let mut length: usize = 0;
+    while Column::FIRST < line.len() - at {
+        let next = at + cut_at(width, &line[at..]);
+        length = lay_line(&line[at..next], out, length);
+        at = next;
+        width = Column::LATER;
+    }
+    octets::lay(&line[at..], out, length)
+}
+
+// Whether every byte is below 128. The loop has no branch, so that it becomes vector code.
+fn all_ascii(line: &[u8]) -> bool
+    ensures { λ r. ⌜ r ≡ only ascii (now (line .entry)) ⌝ }
+{
+    let mut fine = true;
+    let mut i: usize = 0;
+    while i < line.len() {
+        fine = fine & (line[i] <= 127);
+        i += 1;
+    }
+    fine
+}
+
+// How many bytes stand before the first of 128 or more.
+fn ascii_run(line: &[u8]) -> usize
+    ensures { λ r. ⌜ r ≡ run ascii (now (line .entry)) ⌝ }
+{
+    let mut i: usize = 0;
+    while i < line.len() {
+        if line[i] > 127 {
+            return i;
+        }
+        i += 1;
+    }
+    i
+}
+
+// What refuses a line whatever the fold, or Done.
+fn check_line(line: &[u8]) -> Output
+    ensures { λ r. ⌜ r ≡ lineAnswer (now (line .entry)) ⌝ }
+{
+    if line.len() > octets::LONGEST {
+        return Output {
+            answer: octets::TOO_LONG,
+            place: 0,
+            length: 0,
+        };
+    }
+    let end = octets::find_byte(line, 0, b'\n');
+    if end < line.len() {
+        return Output {
+            answer: octets::HAS_BREAK,
+            place: end,
+            length: 0,
+        };
+    }
+    if !all_ascii(line) {
+        return Output {
+            answer: octets::NOT_ASCII,
+            place: ascii_run(line),
+            length: 0,
+        };
+    }
+    Output {
+        answer: octets::DONE,
+        place: 0,
+        length: 0,
+    }
+}
+
+// The strict fold of a line, counted first and then written: a refusal changes nothing.
+pub fn fold_strict(line: &[u8], out: &mut [u8]) -> Output
+    ensures { λ r. ⌜ (r ≡ foldAnswer strict (now (line .entry)) (length (now (out .entry)))) × (now (out .exit) ≡ foldOut strict (now (line .entry)) (now (out .entry))) ⌝ }
+{
+    let checked = check_line(line);
+    if checked.answer != octets::DONE {
+        return checked;
+    }
+    let first = Column::new(Column::FIRST);
+    let mut none = [0u8; 0];
+    let needed = fold_piece(first, line, &mut none).length;
+    let answer = octets::room_for(needed, out.len());
+    if answer.answer != octets::DONE {
+        return answer;
+    }
+    fold_piece(first, line, out);
+    answer
+}
+
+// The repository's fold of a line, in the same way.
+pub fn fold_line(line: &[u8], out: &mut [u8]) -> Output
+    ensures { λ r. ⌜ (r ≡ foldAnswer repository (now (line .entry)) (length (now (out .entry)))) × (now (out .exit) ≡ foldOut repository (now (line .entry)) (now (out .entry))) ⌝ }
+{
+    let checked = check_line(line);
+    if checked.answer != octets::DONE {
+        return checked;
+    }
+    let mut none = [0u8; 0];
+    let needed = fold_repository(line, &mut none);
+    let answer = octets::room_for(needed, out.len());
+    if answer.answer != octets::DONE {
+        return answer;
+    }
+    fold_repository(line, out);
+    answer
+}

@@ -1,0 +1,59 @@
+-- What a line is, by itself (document 01, "Lines and nesting"; RFC 5545, section 3.1, `contentline`). Offsets count in the line.
+-- Assumes nothing.
+use Prim.Native.Nat.{ℕ, _+_, _-_}
+use mathlib.Core.Bool.{_&&_}
+use mathlib.Core.List.{List, [], _∷_, _++_}
+use lib.ListN.{length, getD, drop}
+use lib.Dec.{eqb, ltb}
+use Rattle.octets.specs.Choice.{pick}
+use Rattle.octets.specs.Bytes.{colon, keyByte}
+use Rattle.octets.specs.Runs.{run}
+use Rattle.octets.specs.Words.{startsWord, beginWord, endWord}
+use Rattle.octets.specs.Keys.{keyOf}
+use Rattle.octets.specs.declared.Key.{Key}
+use Rattle.octets.specs.declared.Key.the-variants.{Reserved, Run}
+use Rattle.octets.specs.declared.Span.{Span}
+use Rattle.parameters.specs.Values.{span}
+use Rattle.parameters.specs.Parameters.{passedOf}
+use Rattle.parameters.specs.declared.Passed.{Passed}
+use Rattle.lines.specs.declared.Fault.{Fault}
+use Rattle.lines.specs.declared.Fault.the-variants.{BadLine}
+use Rattle.lines.specs.declared.Property.{Property}
+use Rattle.lines.specs.declared.Line.{Line}
+use Rattle.lines.specs.declared.Line.the-variants.{Empty, Begin, BadBegin, End, Content, Bad}
+
+-- the name behind `BEGIN:` is of key bytes, one or more
+abbrev pub beginOf : List ℕ → Line
+beginOf line =
+    pick (ltb 0 (length line - 6) && eqb (run keyByte (drop 6 line)) (length line - 6)) (Begin (span 6 (length line - 6))) BadBegin
+
+abbrev pub property : ℕ → ℕ → Span → Line
+property key parameters value = Content (record { key = span 0 key; parameters = parameters; value = value })
+
+-- behind the key and its parameters, at `at`: the end of the line, with an empty value, or `:` and the value
+abbrev pub valueFrom : ℕ → ℕ → ℕ → List ℕ → Line
+valueFrom key parameters at line =
+    pick (eqb at (length line))
+    (property key parameters (span at 0))
+    (pick (eqb (getD line at 0) colon) (property key parameters (span (at + 1) (length line - (at + 1)))) (Bad BadLine))
+
+abbrev pub afterKey : ℕ → Passed → List ℕ → Line
+afterKey key passed line = valueFrom key (passed .count) (key + passed .used) line
+
+-- the property rule: a key of at least one byte, parameters, and the value
+abbrev pub byKey : Key → List ℕ → Line
+byKey Reserved line = Bad BadLine
+byKey (Run n) line = pick (eqb n 0) (Bad BadLine) (afterKey n (passedOf (drop n line)) line)
+
+-- `BEGIN:` and `END:` in any case
+abbrev pub beginMark : List ℕ
+beginMark = beginWord ++ colon ∷ []
+
+abbrev pub endMark : List ℕ
+endMark = endWord ++ colon ∷ []
+
+unfoldable pub lineOf : List ℕ → Line
+lineOf line =
+    pick (eqb (length line) 0) Empty
+    (pick (startsWord beginMark line) (beginOf line)
+    (pick (startsWord endMark line) (End (span 4 (length line - 4))) (byKey (keyOf line) line)))

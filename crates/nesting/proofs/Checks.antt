@@ -1,0 +1,50 @@
+-- Whether a line may stand where it does, by how many are open and the innermost of them. Assumes nothing.
+use mathlib.Core.Path.{_≡_, refl, sym, ap, _∙_}
+use mathlib.Core.List.{List, [], _∷_}
+use Prim.Native.Nat.{ℕ, _≤_, _<_}
+use native.Mathlib.Omega.{arith}
+use lib.ListN.{length}
+use lib.Dec.{ltb}
+use borrow.Author.Tests.{lt-ltb, le-ltb}
+use Rattle.octets.specs.Choice.{pick}
+use Rattle.octets.specs.Answers.{deepest}
+use Rattle.nesting.specs.declared.Check.{Check}
+use Rattle.nesting.specs.declared.Entry.{Entry}
+use Rattle.nesting.specs.declared.Refusal.{Refusal}
+use Rattle.nesting.specs.Steps.{names, closes, inside}
+use Rattle.nesting.specs.Held.{topOf, Innermost}
+
+module _ {d : ℕ} {e : Entry} {opens : List Entry} (at : Innermost d e opens) where
+  pub deep-enough : d < deepest → pick (ltb (length opens) deepest) Check.Fine (Check.Bad Refusal.TooDeep) ≡ Check.Fine
+  deep-enough h = rw (lt-ltb (length opens) deepest (omega (arith, at .depth)))
+
+  pub too-deep : deepest ≤ d → pick (ltb (length opens) deepest) Check.Fine (Check.Bad Refusal.TooDeep) ≡ Check.Bad Refusal.TooDeep
+  too-deep h = rw (le-ltb (length opens) deepest (omega (arith, at .depth)))
+
+  pub outside : (c : Check) → d ≡ 0 → inside c opens ≡ Check.Bad Refusal.Outside
+  outside c z = go opens (sym (at .depth) ∙ z)
+    where
+      go : (os : List Entry) → length os ≡ 0 → inside c os ≡ Check.Bad Refusal.Outside
+      go [] h = refl
+      go (o ∷ os) h = absurd (omega arith)
+
+  pub within : (c : Check) → (d ≡ 0 → ⊥) → inside c opens ≡ c
+  within c z = go opens (λ q. z (at .depth ∙ q))
+    where
+      go : (os : List Entry) → (length os ≡ 0 → ⊥) → inside c os ≡ c
+      go [] h = absurd (h refl)
+      go (o ∷ os) h = refl
+
+  pub nothing-closes : (text rest : List ℕ) → d ≡ 0 → closes text rest opens ≡ Check.Bad Refusal.BadEnd
+  nothing-closes text rest z = go opens (sym (at .depth) ∙ z)
+    where
+      go : (os : List Entry) → length os ≡ 0 → closes text rest os ≡ Check.Bad Refusal.BadEnd
+      go [] h = refl
+      go (o ∷ os) h = absurd (omega arith)
+
+  pub top-closes : (text rest : List ℕ) → (d ≡ 0 → ⊥) → closes text rest opens ≡ pick (names text rest e) Check.Fine (Check.Bad Refusal.BadEnd)
+  top-closes text rest z = go opens (λ q. z (at .depth ∙ q)) (at .top)
+    where
+      go : (os : List Entry) → (length os ≡ 0 → ⊥) → e ≡ topOf os → closes text rest os ≡ pick (names text rest e) Check.Fine (Check.Bad Refusal.BadEnd)
+      go [] h t = absurd (h refl)
+      go (o ∷ os) h t = rw t

@@ -1,0 +1,5 @@
+pub mod Tables
+pub mod Stacks
+pub mod Parameters
+pub mod Checks
+pub mod Passing

@@ -1,0 +1,10 @@
+pub mod Lists
+pub mod Laid
+pub mod Laying
+pub mod Writing
+pub mod Runs
+pub mod Words
+pub mod Table
+pub mod KeyTable
+pub mod Keys
+pub mod Answers

@@ -1,0 +1,113 @@
+-- Laws of the longest run of a class, over any class. Assumes nothing.
+use mathlib.Core.Path.{_≡_, refl, sym, ap, _∙_}
+use mathlib.Core.Bool.{Bool, true, false, _&&_}
+use mathlib.Core.List.{List, [], _∷_, _++_}
+use Prim.Native.Nat.{ℕ, zero, suc, _+_, _≤_, _<_, zero-le, suc-le-suc}
+use native.Mathlib.Nat.{not-suc-le-zero, le-of-suc-le-suc}
+use native.Mathlib.Numerals.{add-one}
+use native.Mathlib.Omega.{arith}
+use lib.ListN.{length, getD, take, drop, drop-of-length-le}
+use lib.Seq.{drop-cons}
+use lib.Dec.{leb, leb·zero, leb·suc-zero, leb·suc-suc}
+use Rattle.octets.specs.Choice.{pick}
+use Rattle.octets.specs.Runs.{run, only}
+
+module _ (class : ℕ → Bool) where
+  -- one byte: by its class the run goes on or ends
+  pub turn : (xs : List ℕ) (i : ℕ) → i < length xs → run class (drop i xs) ≡ pick (class (getD xs i 0)) (suc (run class (drop (i + 1) xs))) 0
+  unfolding run
+  turn xs i h = rw (drop-cons xs i 0 h, add-one)
+
+  pub on : (xs : List ℕ) (i : ℕ) → i < length xs → class (getD xs i 0) ≡ true → run class (drop i xs) ≡ suc (run class (drop (i + 1) xs))
+  on xs i h e = turn xs i h ∙ rw e
+
+  pub stop : (xs : List ℕ) (i : ℕ) → i < length xs → class (getD xs i 0) ≡ false → run class (drop i xs) ≡ 0
+  stop xs i h e = turn xs i h ∙ rw e
+
+  pub ended : (xs : List ℕ) (i : ℕ) → length xs ≤ i → run class (drop i xs) ≡ 0
+  unfolding run
+  ended xs i h = rw (drop-of-length-le xs h)
+
+  pub within : (xs : List ℕ) → run class xs ≤ length xs
+  unfolding run
+  within [] = zero-le
+  within (x ∷ xs) = go (class x) (within xs)
+    where
+      go : (t : Bool) → run class xs ≤ length xs → pick t (suc (run class xs)) 0 ≤ suc (length xs)
+      go true h = suc-le-suc h
+      go false h = zero-le
+
+  -- the byte that ends a run is of another class
+  pub stopped : (xs : List ℕ) → run class xs < length xs → class (getD xs (run class xs) 0) ≡ false
+  unfolding run
+  stopped [] h = absurd (not-suc-le-zero h)
+  stopped (x ∷ xs) h = go (class x) refl h (stopped xs)
+    where
+      go : (t : Bool) → class x ≡ t → pick t (suc (run class xs)) 0 < suc (length xs)
+          → (run class xs < length xs → class (getD xs (run class xs) 0) ≡ false)
+          → class (getD (x ∷ xs) (pick t (suc (run class xs)) 0) 0) ≡ false
+      go true e h rest = rest (le-of-suc-le-suc h)
+      go false e h rest = e
+
+  -- a whole run goes on into what follows it
+  pub through : (xs ys : List ℕ) → run class xs ≡ length xs → run class (xs ++ ys) ≡ length xs + run class ys
+  unfolding run
+  through [] ys e = omega arith
+  through (x ∷ xs) ys e = go (class x) e (through xs ys)
+    where
+      go : (t : Bool) → pick t (suc (run class xs)) 0 ≡ suc (length xs)
+          → (run class xs ≡ length xs → run class (xs ++ ys) ≡ length xs + run class ys)
+          → pick t (suc (run class (xs ++ ys))) 0 ≡ suc (length xs) + run class ys
+      go true e rest = omega (arith, rest (omega arith))
+      go false e rest = omega arith
+
+  -- of a list that is one whole run the first byte is of the class, and the others are one whole run
+  pub whole-head : (x : ℕ) (xs : List ℕ) → run class (x ∷ xs) ≡ length (x ∷ xs) → class x ≡ true
+  unfolding run
+  whole-head x xs e = go (class x) e
+    where
+      go : (t : Bool) → pick t (suc (run class xs)) 0 ≡ suc (length xs) → t ≡ true
+      go true e = refl
+      go false e = absurd (omega arith)
+
+  pub whole-tail : (x : ℕ) (xs : List ℕ) → run class (x ∷ xs) ≡ length (x ∷ xs) → run class xs ≡ length xs
+  whole-tail x xs e = omega (arith, on (x ∷ xs) 0 (omega arith) (whole-head x xs e))
+
+  -- and so are its first n bytes
+  pub whole-take : (n : ℕ) (xs : List ℕ) → run class xs ≡ length xs → run class (take n xs) ≡ length (take n xs)
+  unfolding run
+  whole-take zero xs e = refl
+  whole-take (suc n) [] e = refl
+  whole-take (suc n) (x ∷ xs) e = rw (whole-head x xs e) (ap suc (whole-take n xs (whole-tail x xs e)))
+
+  -- the bytes of a run are one whole run
+  pub whole : (xs : List ℕ) → run class (take (run class xs) xs) ≡ length (take (run class xs) xs)
+  unfolding run
+  whole [] = refl
+  whole (x ∷ xs) = go (class x) refl (whole xs)
+    where
+      go : (t : Bool) → class x ≡ t → run class (take (run class xs) xs) ≡ length (take (run class xs) xs)
+          → run class (take (pick t (suc (run class xs)) 0) (x ∷ xs)) ≡ length (take (pick t (suc (run class xs)) 0) (x ∷ xs))
+      go true e rest = rw e (ap suc rest)
+      go false e rest = refl
+
+  -- every byte is of the class: this one, and those behind it
+  pub only-turn : (xs : List ℕ) (i : ℕ) → i < length xs → only class (drop i xs) ≡ class (getD xs i 0) && only class (drop (i + 1) xs)
+  unfolding run
+  only-turn xs i h = rw (drop-cons xs i 0 h, add-one) (go (class (getD xs i 0)) (drop (suc i) xs))
+    where
+      go : (t : Bool) (ys : List ℕ) → leb (suc (length ys)) (pick t (suc (run class ys)) 0) ≡ t && leb (length ys) (run class ys)
+      go true ys = leb·suc-suc (length ys) (run class ys)
+      go false ys = leb·suc-zero (length ys)
+
+  pub only-ended : (xs : List ℕ) (i : ℕ) → length xs ≤ i → only class (drop i xs) ≡ true
+  only-ended xs i h = rw (drop-of-length-le xs h) (leb·zero (run class []))
+
+-- a test that goes on over a list, joined to what was found before it
+pub onward : (so t u : Bool) {v : Bool} → v ≡ t && u → (so && t) && u ≡ so && v
+onward true t u e = sym e
+onward false t u e = refl
+
+pub ended-all : (so : Bool) {u : Bool} → u ≡ true → so ≡ so && u
+ended-all true e = sym e
+ended-all false e = refl

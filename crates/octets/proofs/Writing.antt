@@ -1,0 +1,89 @@
+-- Writing part by part with `lay`, which counts on past the end of the buffer: what is laid so far and what is to come. Assumes nothing.
+use mathlib.Core.Path.{_≡_, refl, sym, ap, _∙_}
+use mathlib.Core.Bool.{Bool, true, false}
+use mathlib.Core.List.{List, [], _∷_, _++_, append-nil, append-assoc}
+use Prim.Native.Nat.{ℕ, _+_, _-_, _≤_, min}
+use native.Mathlib.Nat.{min-eq-left, min-eq-right, le-of-lt}
+use native.Mathlib.Omega.{arith}
+use lib.ListN.{length, take, drop, drop-of-length-le, length-append, length-take, length-drop}
+use lib.Seq.{take-all, take-append-add, drop-append-add, length-take-le}
+use lib.Dec.{leb}
+use borrow.Author.Tests.{leb-true, leb-false}
+use Rattle.octets.specs.Laid.{laid, laidFrom, most, counted}
+use Rattle.octets.proofs.Lists.{lent}
+use Rattle.octets.proofs.Laid.{length-laid, then}
+
+-- past the end of the buffer nothing is laid
+past : (at : ℕ) (xs old : List ℕ) → length old ≤ at → laidFrom at xs old ≡ old
+past at xs old h = rw (take-all at old h, drop-of-length-le old h) (by xs)
+  where
+    by : (xs : List ℕ) → old ++ laid xs [] ≡ old
+    by [] = append-nil old
+    by (x ∷ xs) = append-nil old
+
+pub length-from : (at : ℕ) (xs old : List ℕ) → length (laidFrom at xs old) ≡ length old
+length-from at xs old = omega (arith, length-append (take at old) (laid xs (drop at old)), length-laid xs (drop at old), length-take at old, length-drop at old)
+
+-- a place that stops at the end of the buffer is as good
+pub at-most : (at n : ℕ) (xs old : List ℕ) → length old ≤ n → laidFrom (min at n) xs old ≡ laidFrom at xs old
+at-most at n xs old h = by (leb at n) refl
+  where
+    by : (t : Bool) → leb at n ≡ t → laidFrom (min at n) xs old ≡ laidFrom at xs old
+    by true e = rw (min-eq-left (leb-true at n e))
+    by false e = rw (min-eq-right (le-of-lt (leb-false at n e))) (past n xs old h ∙ sym (past at xs old (omega (arith, leb-false at n e))))
+
+-- xs, and then ys behind it
+pub from-then : (at : ℕ) (xs ys old : List ℕ) → laidFrom (at + length xs) ys (laidFrom at xs old) ≡ laidFrom at (xs ++ ys) old
+from-then at xs ys old = by (leb at (length old)) refl
+  where
+    by : (t : Bool) → leb at (length old) ≡ t → laidFrom (at + length xs) ys (laidFrom at xs old) ≡ laidFrom at (xs ++ ys) old
+    by true e =
+        let n : length (take at old) ≡ at = length-take-le at old (leb-true at (length old) e) in
+        let p : at + length xs ≡ length (take at old) + length xs = ap (λ (k : ℕ). k + length xs) (sym n) in
+        rw (p, take-append-add (take at old) (laid xs (drop at old)) (length xs), drop-append-add (take at old) (laid xs (drop at old)) (length xs), then xs ys (drop at old))
+        (append-assoc (take at old) _ _)
+    by false e =
+        let h : length old ≤ at = le-of-lt (leb-false at (length old) e) in
+        rw (past at xs old h) (past (at + length xs) ys old (omega arith) ∙ sym (past at (xs ++ ys) old h))
+
+-- the same, as two writes leave it that count on
+pub both : (at : ℕ) (xs ys old : List ℕ) → length old ≤ most → {mid new : List ℕ} {n m : ℕ}
+    → n ≡ counted (at + length xs) → mid ≡ laidFrom at xs old → m ≡ counted (n + length ys) → new ≡ laidFrom n ys mid
+    → (m ≡ counted (at + length (xs ++ ys))) × (new ≡ laidFrom at (xs ++ ys) old)
+both at xs ys old h {mid} {new} {n} {m} p q r s = (
+  omega (arith, length-append xs ys),
+  s ∙ (ap (λ (k : ℕ). laidFrom k ys mid) p
+      ∙ (at-most (at + length xs) most ys mid (rw q (omega (arith, length-from at xs old))) ∙ rw q (from-then at xs ys old))),
+)
+
+-- the part from `at` on is lent, and comes back with xs laid over it
+pub lent-back : (at : ℕ) (xs old : List ℕ) {ys : List ℕ} → ys ≡ laid xs (take (length old - at) (drop at old))
+    → take at old ++ (ys ++ drop (length old - at) (drop at old)) ≡ laidFrom at xs old
+lent-back at xs old {ys} e =
+    rw (e, lent old at, drop-of-length-le (drop at old) {i = length old - at} (omega (arith, length-drop at old)), append-nil)
+
+-- of `all`, which is to lie over `old`, `rest` is to come, from `at` on
+pub record Writing (old out all rest : List ℕ) (at : ℕ) : Type 0 where
+  pub lies : laidFrom at rest out ≡ laid all old
+  pub count : counted (at + length rest) ≡ counted (length all)
+  pub same : length out ≡ length old
+
+pub start : (old all : List ℕ) → Writing old old all all 0
+start old all = record { lies = refl; count = ap counted (omega arith); same = refl }
+
+pub more : {old out all rest : List ℕ} {at : ℕ} → Writing old out all rest at → length old ≤ most
+    → (xs new : List ℕ) → rest ≡ xs ++ new → {next : List ℕ} {n : ℕ} → n ≡ counted (at + length xs) → next ≡ laidFrom at xs out
+    → Writing old next all new n
+more {old} {out} {all} {rest} {at} l h xs new e {next} {n} p q =
+    let b = both at xs new out (omega (arith, l .same)) p q refl refl in
+    record {
+      lies = b .1 ∙ (rw e at (l .lies));
+      count = b .0 ∙ (rw e at (l .count));
+      same = rw q (length-from at xs out ∙ l .same);
+    }
+
+-- the last write
+pub end : {old out all rest : List ℕ} {at : ℕ} → Writing old out all rest at
+    → (xs : List ℕ) → xs ≡ rest → {next : List ℕ} {n : ℕ} → n ≡ counted (at + length xs) → next ≡ laidFrom at xs out
+    → (n ≡ counted (length all)) × (next ≡ laid all old)
+end {old} {out} {all} {rest} {at} l xs e p q = ((rw e at p) ∙ l .count, (rw e at q) ∙ l .lies)

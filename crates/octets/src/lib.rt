@@ -1,0 +1,512 @@
+// Bytes: their classes, keys, equal parts, words in any case, views, and the numbers that every answer is made of.
+ghost use mathlib.Core.Path.{_≡_};
+ghost use mathlib.Core.Bool.{Bool, true, false};
+ghost use Prim.Native.Nat.{_+_, _≤_, min};
+ghost use lib.ListN.{length, drop};
+ghost use Rattle.octets.specs.Bytes.{keyByte, lowered, other};
+ghost use Rattle.octets.specs.Laid.{laid, laidFrom, counted};
+ghost use Rattle.octets.specs.Answers.{roomAnswer};
+ghost use Rattle.octets.specs.Runs.{run};
+ghost use Rattle.octets.specs.Words.{sameBytes, startsWord};
+ghost use Rattle.octets.specs.Keys.{keyOf, standsAlone, stopsAt};
+ghost use Rattle.octets.specs.Views.{viewed};
+
+// The most bytes of a feed, of a line to fold, of a value to quote and of the writer's output.
+pub const LONGEST: usize = 1_048_576;
+// The most components that stand inside each other.
+pub const DEEPEST: usize = 64;
+
+pub const DONE: u32 = 0;
+
+pub const TOO_LONG: u32 = 1;
+
+pub const NO_TEXT_ROOM: u32 = 2;
+
+pub const BAD_BEGIN: u32 = 3;
+
+pub const TOO_DEEP: u32 = 4;
+
+pub const BAD_END: u32 = 5;
+
+pub const OUTSIDE: u32 = 6;
+
+pub const BAD_LINE: u32 = 7;
+
+pub const UNCLOSED: u32 = 8;
+
+pub const NO_COMPONENT: u32 = 9;
+
+pub const NO_ROOM: u32 = 10;
+
+pub const HAS_BREAK: u32 = 11;
+
+pub const NOT_ASCII: u32 = 12;
+
+pub const NO_OUT_ROOM: u32 = 13;
+
+// What a fold, quoting or the writer answers: on NO_OUT_ROOM the length is the one needed.
+pub struct Output {
+    pub answer: u32,
+    pub place: usize,
+    pub length: usize,
+}
+
+// A part of a line or of a text.
+pub struct Span {
+    pub start: usize,
+    pub len: usize,
+}
+
+// The key at the front of a line: refused, or as many bytes.
+pub enum Key {
+    Reserved,
+    Run(usize),
+}
+
+// Whether a byte is a letter, a digit or one of . , / _ -
+const KEY_BYTES: [bool; 256] = [
+    false,
+    false,
+    false,
+    false,
+    false,
+    false,
+    false,
+    false,
+    false,
+    false,
+    false,
+    false,
+    false,
+    false,
+    false,
+    false,
+    false,
+    false,
+    false,
+    false,
+    false,
+    false,
+    false,
+    false,
+    false,
+    false,
+    false,
+    false,
+    false,
+    false,
+    false,
+    false,
+    false,
+    false,
+    false,
+    false,
+    false,
+    false,
+    false,
+    false,
+    false,
+    false,
+    false,
+    false,
+    true,
+    true,
+    true,
+    true,
+    true,
+    true,
+    true,
+    true,
+    true,
+    true,
+    true,
+    true,
+    true,
+    true,
+    false,
+    false,
+    false,
+    false,
+    false,
+    false,
+    false,
+    true,
+    true,
+    true,
+    true,
+    true,
+    true,
+    true,
+    true,
+    true,
+    true,
+    true,
+    true,
+    true,
+    true,
+    true,
+    true,
+    true,
+    true,
+    true,
+    true,
+    true,
+    true,
+    true,
+    true,
+    true,
+    true,
+    false,
+    false,
+    false,
+    false,
+    true,
+    false,
+    true,
+    true,
+    true,
+    true,
+    true,
+    true,
+    true,
+    true,
+    true,
+    true,
+    true,
+    true,
+    true,
+    true,
+    true,
+    true,
+    true,
+    true,
+    true,
+    true,
+    true,
+    true,
+    true,
+    true,
+    true,
+    true,
+    false,
+    false,
+    false,
+    false,
+    false,
+    false,
+    false,
+    false,
+    false,
+    false,
+    false,
+    false,
+    false,
+    false,
+    false,
+    false,
+    false,
+    false,
+    false,
+    false,
+    false,
+    false,
+    false,
+    false,
+    false,
+    false,
+    false,
+    false,
+    false,
+    false,
+    false,
+    false,
+    false,
+    false,
+    false,
+    false,
+    false,
+    false,
+    false,
+    false,
+    false,
+    false,
+    false,
+    false,
+    false,
+    false,
+    false,
+    false,
+    false,
+    false,
+    false,
+    false,
+    false,
+    false,
+    false,
+    false,
+    false,
+    false,
+    false,
+    false,
+    false,
+    false,
+    false,
+    false,
+    false,
+    false,
+    false,
+    false,
+    false,
+    false,
+    false,
+    false,
+    false,
+    false,
+    false,
+    false,
+    false,
+    false,
+    false,
+    false,
+    false,
+    false,
+    false,
+    false,
+    false,
+    false,
+    false,
+    false,
+    false,
+    false,
+    false,
+    false,
+    false,
+    false,
+    false,
+    false,
+    false,
+    false,
+    false,
+    false,
+    false,
+    false,
+    false,
+    false,
+    false,
+    false,
+    false,
+    false,
+    false,
+    false,
+    false,
+    false,
+    false,
+    false,
+    false,
+    false,
+    false,
+    false,
+    false,
+    false,
+    false,
+    false,
+    false,
+    false,
+    false,
+    false,
+    false,
+    false,
+    false,
+    false,
+    false,
+    false,
+    false,
+];
+
+// The length of the longest run of key bytes at the front.
+pub fn key_run(line: &[u8]) -> usize
+    ensures { λ r. ⌜ r ≡ run keyByte (now (line .entry)) ⌝ }
+{
+    let table = KEY_BYTES;
+    let mut i: usize = 0;
+    while i < line.len() {
+        let b = line[i] as usize;
+        if !table[b] {
+            return i;
+        }
+        i += 1;
+    }
+    i
+}
+
+// Whether one of the 32 bytes from `at` on is b. The loop has no branch, so that it becomes vector code.
+fn any_of_32(a: &[u8], at: usize, b: u8) -> bool
+    requires { ⌜ at + 32 ≤ length (now a) ⌝ }
+    ensures { λ r. ⌜ (r ≡ false → run (other b) (drop at (now (a .entry))) ≡ 32 + run (other b) (drop (at + 32) (now (a .entry)))) ⌝ }
+{
+    let mut hit = false;
+    let mut j: usize = 0;
+    while j < 32 {
+        hit = hit | (a[at + j] == b);
+        j += 1;
+    }
+    hit
+}
+
+// The place of the first b from `from` on, or the end.
+pub fn find_byte(a: &[u8], from: usize, b: u8) -> usize
+    ensures { λ r. ⌜ r ≡ from + run (other b) (drop from (now (a .entry))) ⌝ }
+{
+    let mut i = from;
+    while i < a.len() {
+        if a.len() - i < 32 {
+            break;
+        }
+        if any_of_32(a, i, b) {
+            break;
+        }
+        i += 32;
+    }
+    while i < a.len() {
+        if a[i] == b {
+            return i;
+        }
+        i += 1;
+    }
+    i
+}
+
+pub fn least(a: usize, b: usize) -> usize
+    ensures { λ r. ⌜ r ≡ min a b ⌝ }
+{
+    if a < b { a } else { b }
+}
+
+// Lays the bytes over the front of a buffer, as far as it goes.
+pub fn put(bytes: &[u8], out: &mut [u8])
+    ensures { λ _. ⌜ now (out .exit) ≡ laid (now (bytes .entry)) (now (out .entry)) ⌝ }
+{
+    let n = least(bytes.len(), out.len());
+    let mut i: usize = 0;
+    while i < n {
+        out[i] = bytes[i];
+        i += 1;
+    }
+}
+
+// The largest number of 64 bits, where a count stops.
+const MOST: usize = 18_446_744_073_709_551_615;
+
+// Lays the bytes over the buffer from `at` on, as far as it goes, and counts them in full.
+pub fn lay(bytes: &[u8], out: &mut [u8], at: usize) -> usize
+    ensures { λ r. ⌜ (r ≡ counted (at + length (now (bytes .entry)))) × (now (out .exit) ≡ laidFrom at (now (bytes .entry)) (now (out .entry))) ⌝ }
+{
+    let from = least(at, out.len());
+    put(bytes, &mut out[from..]);
+    at + least(bytes.len(), MOST - at)
+}
+
+// Whether so many bytes go into so much room: Done, or the length needed.
+pub fn room_for(needed: usize, room: usize) -> Output
+    ensures { λ r. ⌜ r ≡ roomAnswer needed room ⌝ }
+{
+    if room < needed {
+        return Output {
+            answer: NO_OUT_ROOM,
+            place: 0,
+            length: needed,
+        };
+    }
+    Output {
+        answer: DONE,
+        place: 0,
+        length: needed,
+    }
+}
+
+pub fn same_bytes(a: &[u8], b: &[u8]) -> bool
+    ensures { λ r. ⌜ r ≡ sameBytes (now (a .entry)) (now (b .entry)) ⌝ }
+{
+    if a.len() != b.len() {
+        return false;
+    }
+    let mut i: usize = 0;
+    while i < a.len() {
+        if a[i] != b[i] {
+            return false;
+        }
+        i += 1;
+    }
+    true
+}
+
+fn lower(b: u8) -> u8
+    ensures { λ r. ⌜ r ≡ lowered b ⌝ }
+{
+    if b < b'A' {
+        return b;
+    }
+    if b'Z' < b {
+        return b;
+    }
+    b + 32
+}
+
+// Whether the line starts with the word, in any case of its letters.
+pub fn starts_word(word: &[u8], line: &[u8]) -> bool
+    ensures { λ r. ⌜ r ≡ startsWord (now (word .entry)) (now (line .entry)) ⌝ }
+{
+    let mut i: usize = 0;
+    while i < word.len() {
+        if line.len() <= i {
+            return false;
+        }
+        if lower(line[i]) != lower(word[i]) {
+            return false;
+        }
+        i += 1;
+    }
+    true
+}
+
+// Whether the line has `:`, `;` or its end at n.
+fn stops_at(n: usize, line: &[u8]) -> bool
+    ensures { λ r. ⌜ r ≡ stopsAt n (now (line .entry)) ⌝ }
+{
+    if line.len() <= n {
+        return true;
+    }
+    let b = line[n];
+    (b == b':') | (b == b';')
+}
+
+// Whether the word, in any case, stands at the front of the line and ends there.
+fn stands_alone(word: &[u8], line: &[u8]) -> bool
+    ensures { λ r. ⌜ r ≡ standsAlone (now (word .entry)) (now (line .entry)) ⌝ }
+{
+    starts_word(word, line) & stops_at(word.len(), line)
+}
+
+// The key at the front of a line. BEGINNING is a key; BEGIN is none where the word ends there.
+pub fn property_key(line: &[u8]) -> Key
+    ensures { λ r. ⌜ r ≡ keyOf (now (line .entry)) ⌝ }
+{
+    if stands_alone(b"BEGIN", line) | stands_alone(b"END", line) {
+        return Key::Reserved;
+    }
+    Key::Run(key_run(line))
+}
+
+// The part of a text, or the empty part at its front where start and len reach outside.
+pub fn view(text: &[u8], start: usize, len: usize) -> &[u8]
+    ensures { λ r. ⌜ now r ≡ viewed (now (text .entry)) start len ⌝ }
+{
+    if text.len() < start {
+        return &text[0..0];
+    }
+    if text.len() - start < len {
+        return &text[0..0];
+    }
+    let end = start + len;
+    &text[start..end]
+}

@@ -1,0 +1,5 @@
+pub mod Runs
+pub mod Values
+pub mod Laws
+pub mod Lists
+pub mod RoundTrip

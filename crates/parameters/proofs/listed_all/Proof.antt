@@ -1,0 +1,42 @@
+-- `parameters::listed_all` meets its contract.
+-- Assumes nothing.
+use borrow.Author.Needs.{needs}
+use Rattle.parameters.proofs.listed_all.Statement.{statement}
+use Rattle.parameters.proofs.listed_all.Tie as tie
+
+enum-told : tie.Need-enum-told
+enum-told c = search needs
+
+enum-told-2 : tie.Need-enum-told-2
+enum-told-2 c = search needs
+
+enum-told-3 : tie.Need-enum-told-3
+enum-told-3 c = search needs
+
+enum-known-form : tie.Need-enum-known-form
+enum-known-form c = search needs
+
+returns : tie.Need-returns
+returns c = search needs
+
+returns-2 : tie.Need-returns-2
+returns-2 c = search needs
+
+returns-3 : tie.Need-returns-3
+returns-3 c = search needs
+
+returns-4 : tie.Need-returns-4
+returns-4 c = rw (c .before .form .given .1)
+
+pub listed-all-spec : {M : Type 1} → statement M
+listed-all-spec =
+    tie.close
+    (tie.spec
+    enum-told
+    enum-told-2
+    enum-told-3
+    enum-known-form
+    returns
+    returns-2
+    returns-3
+    returns-4)

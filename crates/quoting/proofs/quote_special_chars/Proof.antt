@@ -1,0 +1,58 @@
+-- `quoting::quote_special_chars`: too long a value, a refusal for room, or the value quoted.
+use borrow.Author.Needs.{needs}
+use lib.ListN.{length}
+use Rattle.octets.proofs.Answers.{kept, written}
+use Rattle.quoting.specs.Quoting.{quoted}
+use Rattle.quoting.proofs.Laws.{too-long, counts}
+use Rattle.quoting.proofs.quote_special_chars.Statement.{statement}
+use Rattle.quoting.proofs.quote_special_chars.Tie as tie
+
+returns : tie.Need-returns
+returns c =
+    let a = c .before .before .before .args in
+    let value = a .value .now in
+    let old = a .out .now in
+    kept (too-long value (length old) (c .if1 .taken)) (quoted value) old (search needs)
+
+slice-aggregate-lay-quoted : tie.Need-slice-aggregate-lay-quoted
+slice-aggregate-lay-quoted c = search needs
+
+lay-quoted-requires : tie.Need-lay-quoted-requires
+lay-quoted-requires c κs = search needs
+
+room-for-requires : tie.Need-room-for-requires
+room-for-requires c κs = search needs
+
+returns-2 : tie.Need-returns-2
+returns-2 c =
+    let a = c .before .before .before .before .before .before .before .before .before .args in
+    let value = a .value .now in
+    let old = a .out .now in
+    kept (counts value (length old) (c .before .before .before .before .before .before .if1 .left) (c .before .before .before .before .lay-quoted .ensures .0) (c .before .before .room-for .ensures)) (quoted value) old (c .if2 .taken)
+
+lay-quoted-requires-2 : tie.Need-lay-quoted-requires-2
+lay-quoted-requires-2 c κs = search needs
+
+same-length : tie.Need-same-length
+same-length c = search needs
+
+returns-3 : tie.Need-returns-3
+returns-3 c =
+    let a = c .before .before .before .before .before .before .before .before .before .before .before .before .before .args in
+    let value = a .value .now in
+    let old = a .out .now in
+    written (counts value (length old) (c .before .before .before .before .before .before .before .before .before .before .if1 .left) (c .before .before .before .before .before .before .before .before .lay-quoted .ensures .0) (c .before .before .before .before .before .before .room-for .ensures)) (quoted value) old
+    (c .before .before .before .before .if2 .left) (c .before .before .lay-quoted2 .ensures .1)
+
+pub quote-special-chars-spec : {M : Type 1} → statement M
+quote-special-chars-spec =
+    tie.close
+    (tie.spec
+    returns
+    slice-aggregate-lay-quoted
+    lay-quoted-requires
+    room-for-requires
+    returns-2
+    lay-quoted-requires-2
+    same-length
+    returns-3)

@@ -1,0 +1,167 @@
+-- Laws of the six numbers and of what a reading leaves. Assumes nothing.
+use mathlib.Core.Path.{_≡_, refl, sym, ap, _∙_}
+use mathlib.Core.Bool.{Bool, true, false, _&&_}
+use mathlib.Core.List.{List, [], _∷_, _++_}
+use Prim.Native.Nat.{ℕ, _+_, _-_, _*_, _/_, _≤_, _<_}
+use native.Mathlib.Nat.{le-div-iff-mul-le, mul-comm}
+use native.Mathlib.Omega.{arith}
+use lib.ListN.{length, take, drop}
+use lib.Seq.{take-append-seam}
+use lib.Dec.{eqb, leb}
+use borrow.Author.Tests.{le-leb, lt-leb, leb-true}
+use Rattle.octets.specs.Choice.{pick}
+use Rattle.octets.specs.Laid.{laid}
+use Rattle.octets.proofs.Laid.{whole, length-laid}
+use Rattle.octets.specs.Answers.{longest, done, noRoom, noTextRoom, tooLong}
+use Rattle.unfolding.specs.Unfold.{unfolded}
+use Rattle.lines.specs.declared.Fault.the-variants.{BadLine}
+use Rattle.tables.specs.Rows.{flat, componentSize, propertySize, parameterSize, componentWords, propertyWords, parameterWords, componentFrom, propertyFrom, parameterFrom}
+use Rattle.tables.proofs.Laws.{Shape, component-shape, property-shape, parameter-shape}
+use Rattle.nesting.specs.Steps.{State, Run, finished, stopped, runOf, endedAt, judged, outcomeOf, countsOf}
+use Rattle.nesting.specs.Held.{putRows, Tabled}
+use Rattle.nesting.specs.declared.Counts.{Counts}
+use Rattle.nesting.specs.declared.Refusal.{Refusal}
+use Rattle.nesting.specs.declared.Outcome.{Outcome}
+use Rattle.nesting.specs.declared.Outcome.the-variants.{Read, Refused}
+use Rattle.nesting.proofs.Tables.{all-put}
+use Rattle.reading.specs.declared.Reading.{Reading}
+use Rattle.reading.specs.Answers.{numberOf, told, refusal, roomFor, fits, answered, readText, readingOf, laidWhole, textAfter, rowsOf, tableAfter}
+
+-- every refusal of a line has a number of its own, which is not Done
+pub refusal-number : (r : Refusal) → eqb (numberOf r) done ≡ false
+refusal-number Refusal.BadBegin = refl
+refusal-number Refusal.TooDeep = refl
+refusal-number Refusal.BadEnd = refl
+refusal-number Refusal.Outside = refl
+refusal-number (Refusal.Line BadLine) = refl
+refusal-number Refusal.Unclosed = refl
+refusal-number Refusal.NoComponent = refl
+
+-- a text that answers its counts was read to the end, and these are its rows
+pub record Finished (text : List ℕ) (n : Counts) : Type 0 where
+  pub state : State
+  pub run : runOf text ≡ finished state
+  pub counts : n ≡ countsOf state
+
+ended-counts : (depth : ℕ) (n : Counts) (size : ℕ) (counts : Counts) → endedAt depth n size ≡ Read counts → counts ≡ n
+ended-counts depth n size counts e = go (eqb depth 0) (eqb (n .components) 0) e
+  where
+    go : (t u : Bool) → pick t (pick u (Refused Refusal.NoComponent size) (Read n)) (Refused Refusal.Unclosed size) ≡ Read counts → counts ≡ n
+    go true true e = cc
+    go true false e = cc
+    go false u e = cc
+
+pub read-to-end : (text : List ℕ) (counts : Counts) → outcomeOf text ≡ Read counts → Finished text counts
+unfolding outcomeOf
+read-to-end text counts e = go (runOf text) refl e
+  where
+    go : (r : Run) → runOf text ≡ r → judged r (length text) ≡ Read counts → Finished text counts
+    go (finished s) f e = record { state = s; run = f; counts = ended-counts (length (s .opens)) (countsOf s) (length text) counts e }
+    go (stopped r place) f e = let z : _≡_ {A = ℕ} 0 1 = cc in absurd (omega arith)
+
+-- ---- a table with room for its rows
+
+room-for : (size n len : ℕ) → 0 < size → n ≤ len / size → size * n ≤ len
+room-for size n len pos h = omega (arith, le-div-iff-mul-le pos .0 h, mul-comm size n)
+
+and-left : (a b : Bool) → a && b ≡ true → a ≡ true
+and-left true b e = refl
+and-left false b e = e
+
+and-right : (a b : Bool) → a && b ≡ true → b ≡ true
+and-right true b e = e
+and-right false b e = cc
+
+module _ {A : Type 0} {size : ℕ} {words : A → List ℕ} {from : List ℕ → ℕ → A} (shape : Shape size words from) where
+  filled : (rows : List A) (n : ℕ) (old new : List ℕ) → n ≡ length rows → leb n (length old / size) ≡ true → new ≡ putRows size words 0 rows old
+      → new ≡ laid (flat words rows) old
+  filled rows n old new e t held =
+      held ∙ all-put size words shape rows old (room-for size (length rows) (length old) (shape .some) (rw e at (leb-true n (length old / size) t)))
+
+-- what the three tables hold after an answer
+pub record Left (text : List ℕ) (r : Reading) (c p q c′ p′ q′ : List ℕ) : Type 0 where
+  pub components : c′ ≡ tableAfter componentWords (rowsOf (runOf text) .components) r c
+  pub properties : p′ ≡ tableAfter propertyWords (rowsOf (runOf text) .properties) r p
+  pub parameters : q′ ≡ tableAfter parameterWords (rowsOf (runOf text) .parameters) r q
+
+pub untouched : (text : List ℕ) (r : Reading) (c p q : List ℕ) → eqb (r .answer) done ≡ false → Left text r c p q c p q
+untouched text r c p q e = record { components = rw e; properties = rw e; parameters = rw e }
+
+-- the same of an equal answer, and of an equal text
+pub left-by : {text text′ : List ℕ} {r r′ : Reading} {c p q c′ p′ q′ : List ℕ} → text ≡ text′ → r ≡ r′ → Left text r c p q c′ p′ q′ → Left text′ r′ c p q c′ p′ q′
+left-by {c = c} {p} {q} {c′} {p′} {q′} e f w = rw (sym e, sym f) w
+
+-- told as the contracts tell it
+pub tables : {text : List ℕ} {r : Reading} {c p q c′ p′ q′ : List ℕ} → Left text r c p q c′ p′ q′
+    → (c′ ≡ tableAfter componentWords (rowsOf (runOf text) .components) r c)
+    × ((p′ ≡ tableAfter propertyWords (rowsOf (runOf text) .properties) r p) × (q′ ≡ tableAfter parameterWords (rowsOf (runOf text) .parameters) r q))
+tables w = (w .components, (w .properties, w .parameters))
+
+module _ (text c p q : List ℕ) (counts : Counts) (e : outcomeOf text ≡ Read counts) where
+  abbrev room : Counts
+  room = roomFor (length c) (length p) (length q)
+
+  pub answers : (t : Bool) → fits counts room ≡ t → readText text room ≡ told (pick t done noRoom) 0 (length text) counts
+  answers t f = rw (e, f)
+
+  pub fills : fits counts room ≡ true → (c′ p′ q′ : List ℕ) → ((s : State) → runOf text ≡ finished s → Tabled s c p q c′ p′ q′)
+      → Left text (told done 0 (length text) counts) c p q c′ p′ q′
+  fills f c′ p′ q′ tabled =
+      let w = read-to-end text counts e in
+      let s = w .state in
+      let t = tabled s (w .run) in
+      let n = w .counts in
+      let fc = and-left (leb (counts .components) (length c / componentSize)) _ f in
+      let fpq = and-right (leb (counts .components) (length c / componentSize)) _ f in
+      let fp = and-left (leb (counts .properties) (length p / propertySize)) _ fpq in
+      let fq = and-right (leb (counts .properties) (length p / propertySize)) _ fpq in
+      record {
+        components = filled component-shape (s .components) (counts .components) c c′ (ap (λ (k : Counts). k .components) n) fc (t .components) ∙ rw (w .run);
+        properties = filled property-shape (s .properties) (counts .properties) p p′ (ap (λ (k : Counts). k .properties) n) fp (t .properties) ∙ rw (w .run);
+        parameters = filled parameter-shape (s .parameters) (counts .parameters) q q′ (ap (λ (k : Counts). k .parameters) n) fq (t .parameters) ∙ rw (w .run);
+      }
+
+pub refused-text : (text : List ℕ) (room : Counts) (r : Refusal) (place : ℕ) → outcomeOf text ≡ Refused r place
+    → readText text room ≡ refusal (numberOf r) place (length text)
+refused-text text room r place e = rw e
+
+-- ---- the text
+
+pub text-fits : (bytes old : List ℕ) → length bytes ≤ length old → laid bytes old ≡ laidWhole bytes old
+text-fits bytes old h = rw (le-leb (length bytes) (length old) h)
+
+pub text-stays : (bytes old : List ℕ) → length old < length bytes → old ≡ laidWhole bytes old
+text-stays bytes old h = rw (lt-leb (length bytes) (length old) h)
+
+pub length-whole : (bytes old : List ℕ) → length (laidWhole bytes old) ≡ length old
+length-whole bytes old = go (leb (length bytes) (length old))
+  where
+    go : (t : Bool) → length (pick t (laid bytes old) old) ≡ length old
+    go true = length-laid bytes old
+    go false = refl
+
+module _ (feed text : List ℕ) (room : Counts) where
+  pub too-long : longest < length feed → (refusal tooLong 0 0 ≡ readingOf feed (length text) room) × (text ≡ textAfter feed text)
+  unfolding readingOf textAfter
+  too-long h = (rw (lt-leb (length feed) longest h), rw (lt-leb (length feed) longest h))
+
+  module _ (short : length feed ≤ longest) where
+    pub text-after : laidWhole (unfolded feed) text ≡ textAfter feed text
+    unfolding textAfter
+    text-after = rw (le-leb (length feed) longest short)
+
+    pub no-text-room : length text < length (unfolded feed) → refusal noTextRoom 0 (length (unfolded feed)) ≡ readingOf feed (length text) room
+    unfolding readingOf
+    no-text-room h = rw (le-leb (length feed) longest short, lt-leb (length (unfolded feed)) (length text) h)
+
+    pub reads-text : length (unfolded feed) ≤ length text → readText (unfolded feed) room ≡ readingOf feed (length text) room
+    unfolding readingOf
+    reads-text h = rw (le-leb (length feed) longest short, le-leb (length (unfolded feed)) (length text) h)
+
+-- the unfolded feed is what is lent to the reading of the text
+pub lent-text : (feed text new : List ℕ) (n : ℕ) → n ≡ length (unfolded feed) → length (unfolded feed) ≤ length text → new ≡ laidWhole (unfolded feed) text
+    → take (n - 0) new ≡ unfolded feed
+lent-text feed text new n e h held =
+    let k : n - 0 ≡ length (unfolded feed) = omega arith in
+    let l : new ≡ unfolded feed ++ drop (length (unfolded feed)) text = held ∙ sym (text-fits (unfolded feed) text h) ∙ whole (unfolded feed) text h in
+    rw (k, l) (take-append-seam (unfolded feed) (drop (length (unfolded feed)) text))

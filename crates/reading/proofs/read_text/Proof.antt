@@ -1,0 +1,104 @@
+-- `reading::read_text`: the rows are counted first, and put only where there is room for all of them.
+-- Assumes nothing.
+use mathlib.Core.Path.{_≡_, refl, sym, ap, _∙_}
+use mathlib.Core.Bool.{Bool, true, false}
+use Prim.Native.Nat.{ℕ}
+use lib.ListN.{length}
+use lib.Dec.{eqb}
+use Rattle.reading.specs.Answers.{refusal}
+use borrow.Author.Tests.{not-true, not-false}
+use Rattle.octets.specs.Answers.{done}
+use Rattle.reading.specs.declared.Reading.{Reading}
+use Rattle.reading.proofs.Laws.{answers, fills, refused-text, refusal-number, untouched, left-by, tables}
+use borrow.Author.Needs.{needs}
+use Rattle.reading.proofs.read_text.Statement.{statement}
+use Rattle.reading.proofs.read_text.Tie as tie
+
+count-requires : tie.Need-count-requires
+count-requires c κs = search needs
+
+enum-known-outcome : tie.Need-enum-known-outcome
+enum-known-outcome c = search needs
+
+number-of-requires : tie.Need-number-of-requires
+number-of-requires c κs = search needs
+
+refuse-requires : tie.Need-refuse-requires
+refuse-requires c κs = search needs
+
+enum-known-outcome-2 : tie.Need-enum-known-outcome-2
+enum-known-outcome-2 c = search needs
+
+have-room-requires : tie.Need-have-room-requires
+have-room-requires c κs = search needs
+
+tell-requires : tie.Need-tell-requires
+tell-requires c κs = search needs
+
+same-length : tie.Need-same-length
+same-length c = search needs
+
+same-length-2 : tie.Need-same-length-2
+same-length-2 c = search needs
+
+same-length-3 : tie.Need-same-length-3
+same-length-3 c = search needs
+
+returns : tie.Need-returns
+returns c = let a = c .before .before .before .before .before .before .before .before .before .before .before .before .before .before .args in
+    let e = sym (c .before .before .before .before .before .before .before .before .before .count .ensures) ∙ c .before .before .before .before .before .before .before .outcome2 .given .1 in
+    let f = sym (c .before .before .have-room .ensures) ∙ not-true _ (c .before .if1 .taken) in
+    let w = untouched (a .text .now) (c .tell .result) (a .components .now) (a .properties .now) (a .parameters .now) (ap (λ (r : Reading). eqb (r .answer) done) (c .tell .ensures)) in
+    (c .tell .ensures ∙ sym (answers (a .text .now) (a .components .now) (a .properties .now) (a .parameters .now) _ e false f), tables w)
+
+pass-requires : tie.Need-pass-requires
+pass-requires c κs = search needs
+
+tell-requires-2 : tie.Need-tell-requires-2
+tell-requires-2 c κs = search needs
+
+returns-2 : tie.Need-returns-2
+returns-2 c = let a = c .before .before .before .before .before .before .before .before .before .before .args in
+    let e = sym (c .before .before .before .before .before .count .ensures) ∙ c .before .before .before .outcome .given .1 in
+    let n = c .refuse .ensures ∙ ap (λ (k : ℕ). refusal k (c .before .before .before .outcome .given .0 .1 .0) (length (a .text .now))) (c .before .number-of .ensures) in
+    let w = untouched (a .text .now) (c .refuse .result) (a .components .now) (a .properties .now) (a .parameters .now) (ap (λ (r : Reading). eqb (r .answer) done) n ∙ refusal-number (c .before .before .before .outcome .given .0 .0)) in
+    (n ∙ sym (refused-text (a .text .now) _ _ _ e), tables w)
+
+same-length-4 : tie.Need-same-length-4
+same-length-4 c = search needs
+
+same-length-5 : tie.Need-same-length-5
+same-length-5 c = search needs
+
+same-length-6 : tie.Need-same-length-6
+same-length-6 c = search needs
+
+returns-3 : tie.Need-returns-3
+returns-3 c = let a = c .before .before .before .before .before .before .before .before .before .before .before .before .before .before .before .before .before .before .before .before .before .before .before .before .args in
+    let e = sym (c .before .before .before .before .before .before .before .before .before .before .before .before .before .before .before .before .before .before .before .count .ensures) ∙ c .before .before .before .before .before .before .before .before .before .before .before .before .before .before .before .before .before .outcome2 .given .1 in
+    let f = sym (c .before .before .before .before .before .before .before .before .before .before .before .before .have-room .ensures) ∙ not-false _ (c .before .before .before .before .before .before .before .before .before .before .before .if1 .left) in
+    let w = fills (a .text .now) (a .components .now) (a .properties .now) (a .parameters .now) _ e f _ _ _ (c .before .before .before .before .before .before .before .pass .ensures .1) in
+    (c .tell2 .ensures ∙ sym (answers (a .text .now) (a .components .now) (a .properties .now) (a .parameters .now) _ e true f), tables (left-by refl (sym (c .tell2 .ensures)) w))
+
+pub read-text-spec : {M : Type 1} → statement M
+read-text-spec =
+    tie.close
+    (tie.spec
+    count-requires
+    enum-known-outcome
+    number-of-requires
+    refuse-requires
+    enum-known-outcome-2
+    have-room-requires
+    tell-requires
+    same-length
+    same-length-2
+    same-length-3
+    returns
+    pass-requires
+    tell-requires-2
+    returns-2
+    same-length-4
+    same-length-5
+    same-length-6
+    returns-3)

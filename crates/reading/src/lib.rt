@@ -1,0 +1,140 @@
+// The public reading: a feed is unfolded into a lent text and read into three lent tables.
+ghost use mathlib.Core.Path.{_≡_};
+ghost use Prim.Native.Nat.{_≤_};
+ghost use lib.ListN.{length};
+ghost use Rattle.octets.specs.Answers.{longest};
+ghost use Rattle.tables.specs.Rows.{componentWords, propertyWords, parameterWords};
+ghost use Rattle.nesting.specs.Steps.{runOf};
+ghost use Rattle.unfolding.specs.Unfold.{unfolded};
+ghost use Rattle.reading.specs.Answers.{laidWhole, readText, rowsOf, tableAfter, numberOf, faultNumber, refusal, told, fits, roomFor, whole, textAfter, componentsAfter, propertiesAfter, parametersAfter};
+use lines::Fault;
+use nesting::Counts;
+use nesting::Outcome;
+use nesting::Refusal;
+
+// Six numbers: answer, place, length of the unfolded text, and three counts of rows.
+pub struct Reading {
+    pub answer: u32,
+    pub place: usize,
+    pub length: usize,
+    pub components: usize,
+    pub properties: usize,
+    pub parameters: usize,
+}
+
+fn fault_number(fault: Fault) -> u32
+    ensures { λ n. ⌜ n ≡ faultNumber fault ⌝ }
+{
+    match fault {
+        Fault::BadLine => octets::BAD_LINE,
+    }
+}
+
+fn number_of(r: Refusal) -> u32
+    ensures { λ n. ⌜ n ≡ numberOf r ⌝ }
+{
+    match r {
+        Refusal::BadBegin => octets::BAD_BEGIN,
+        Refusal::TooDeep => octets::TOO_DEEP,
+        Refusal::BadEnd => octets::BAD_END,
+        Refusal::Outside => octets::OUTSIDE,
+        Refusal::Line(fault) => fault_number(fault),
+        Refusal::Unclosed => octets::UNCLOSED,
+        Refusal::NoComponent => octets::NO_COMPONENT,
+    }
+}
+
+fn tell(answer: u32, place: usize, length: usize, counts: Counts) -> Reading
+    ensures { λ r. ⌜ r ≡ told answer place length counts ⌝ }
+{
+    Reading {
+        answer,
+        place,
+        length,
+        components: counts.components,
+        properties: counts.properties,
+        parameters: counts.parameters,
+    }
+}
+
+fn refuse(answer: u32, place: usize, length: usize) -> Reading
+    ensures { λ r. ⌜ r ≡ refusal answer place length ⌝ }
+{
+    tell(answer, place, length, Counts::new())
+}
+
+// Whether each count has its rows.
+fn have_room(counts: Counts, components: &[u32], properties: &[u32], parameters: &[u32]) -> bool
+    ensures { λ r. ⌜ r ≡ fits counts (roomFor (length (now (components .entry))) (length (now (properties .entry))) (length (now (parameters .entry)))) ⌝ }
+{
+    (counts.components <= tables::component_rows(components))
+        & ((counts.properties <= tables::property_rows(properties))
+            & (counts.parameters <= tables::parameter_rows(parameters)))
+}
+
+// Unfolds a feed into a text, which stays as it was where the feed does not fit. Returns the unfolded length.
+fn unfold_where_it_fits(feed: &[u8], text: &mut [u8]) -> usize
+    ensures { λ r. ⌜ r ≡ length (unfolded (now (feed .entry))) ⌝ }
+    ensures { λ _. ⌜ now (text .exit) ≡ laidWhole (unfolded (now (feed .entry))) (now (text .entry)) ⌝ }
+{
+    // Unfolding makes nothing longer, so its length is counted first only where the text is shorter than the feed.
+    if feed.len() <= text.len() {
+        return unfolding::unfold_into(feed, text);
+    }
+    let mut nothing = [0u8; 0];
+    let n = unfolding::unfold_into(feed, &mut nothing);
+    if text.len() < n {
+        return n;
+    }
+    unfolding::unfold_into(feed, text)
+}
+
+// Reads an unfolded text into the tables, or refuses and leaves them as they were.
+fn read_text(
+    text: &[u8],
+    components: &mut [u32],
+    properties: &mut [u32],
+    parameters: &mut [u32],
+) -> Reading
+    requires { ⌜ length (now text) ≤ longest ⌝ }
+    ensures { λ r. ⌜ r ≡ readText (now (text .entry)) (roomFor (length (now (components .entry))) (length (now (properties .entry))) (length (now (parameters .entry)))) ⌝ }
+    ensures { λ r. ⌜ now (components .exit) ≡ tableAfter componentWords (rowsOf (runOf (now (text .entry))) .components) r (now (components .entry)) ⌝ }
+    ensures { λ r. ⌜ now (properties .exit) ≡ tableAfter propertyWords (rowsOf (runOf (now (text .entry))) .properties) r (now (properties .entry)) ⌝ }
+    ensures { λ r. ⌜ now (parameters .exit) ≡ tableAfter parameterWords (rowsOf (runOf (now (text .entry))) .parameters) r (now (parameters .entry)) ⌝ }
+{
+    let size = text.len();
+    let outcome = nesting::count(text);
+    match outcome {
+        Outcome::Refused(r, place) => refuse(number_of(r), place, size),
+        Outcome::Read(counts) => {
+            if !have_room(counts, components, properties, parameters) {
+                return tell(octets::NO_ROOM, 0, size, counts);
+            }
+            nesting::pass(text, components, properties, parameters);
+            tell(octets::DONE, 0, size, counts)
+        }
+    }
+}
+
+pub fn read_components(
+    feed: &[u8],
+    text: &mut [u8],
+    components: &mut [u32],
+    properties: &mut [u32],
+    parameters: &mut [u32],
+) -> Reading
+    ensures { λ r. ⌜ r ≡ whole (now (feed .entry)) (now (text .entry)) (now (components .entry)) (now (properties .entry)) (now (parameters .entry)) ⌝ }
+    ensures { λ _. ⌜ now (text .exit) ≡ textAfter (now (feed .entry)) (now (text .entry)) ⌝ }
+    ensures { λ _. ⌜ now (components .exit) ≡ componentsAfter (now (feed .entry)) (now (text .entry)) (now (components .entry)) (now (properties .entry)) (now (parameters .entry)) ⌝ }
+    ensures { λ _. ⌜ now (properties .exit) ≡ propertiesAfter (now (feed .entry)) (now (text .entry)) (now (components .entry)) (now (properties .entry)) (now (parameters .entry)) ⌝ }
+    ensures { λ _. ⌜ now (parameters .exit) ≡ parametersAfter (now (feed .entry)) (now (text .entry)) (now (components .entry)) (now (properties .entry)) (now (parameters .entry)) ⌝ }
+{
+    if octets::LONGEST < feed.len() {
+        return refuse(octets::TOO_LONG, 0, 0);
+    }
+    let n = unfold_where_it_fits(feed, text);
+    if text.len() < n {
+        return refuse(octets::NO_TEXT_ROOM, 0, n);
+    }
+    read_text(&text[0..n], components, properties, parameters)
+}

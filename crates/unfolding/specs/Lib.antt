@@ -1,0 +1,3 @@
+pub mod Unfold
+pub mod OnePass
+pub mod Parts
