@@ -2,6 +2,15 @@
 use mathlib.Core.Path.{_≡_, sym, _∙_}
 use mathlib.Core.List.{List}
 use Prim.Native.Nat.{ℕ}
+use lib.ListN.{length}
+use Rattle.octets.specs.Views.{viewed}
+use Rattle.octets.specs.declared.Output.{Output}
+use Rattle.parameters.specs.declared.Front.{Front}
+use Rattle.parameters.specs.Parameter.{frontOf}
+use Rattle.folding.specs.Strict.{strict}
+use Rattle.folding.specs.Repository.{repository}
+use Rattle.folding.specs.Answers.{foldAnswer, foldOut}
+use Rattle.quoting.specs.Answers.{quoteAnswer, quoteOut}
 use Rattle.reading.specs.declared.Reading.{Reading}
 use Rattle.demands.specs.Lent.{Lent, readInto, left}
 
@@ -18,3 +27,30 @@ determined a a′ = (a .result-is ∙ sym (a′ .result-is), a .exit-is ∙ sym 
 pub reading-determined : (feed : List ℕ) (b : Lent) {r r′ : Reading} {x x′ : Lent}
     → Allowed (readInto feed) (left feed) b r x → Allowed (readInto feed) (left feed) b r′ x′ → (r ≡ r′) × (x ≡ x′)
 reading-determined feed b a a′ = determined a a′
+
+-- a fold: three numbers and the bytes of the output
+abbrev pub FoldAllows : (fold : List ℕ → List ℕ) (line old : List ℕ) → Output → List ℕ → Type 0
+FoldAllows fold line = Allowed (λ (o : List ℕ). foldAnswer fold line (length o)) (foldOut fold line)
+
+pub fold-strict-determined : (line old : List ℕ) {r r′ : Output} {x x′ : List ℕ}
+    → FoldAllows strict line old r x → FoldAllows strict line old r′ x′ → (r ≡ r′) × (x ≡ x′)
+fold-strict-determined line old a a′ = determined a a′
+
+pub fold-line-determined : (line old : List ℕ) {r r′ : Output} {x x′ : List ℕ}
+    → FoldAllows repository line old r x → FoldAllows repository line old r′ x′ → (r ≡ r′) × (x ≡ x′)
+fold-line-determined line old a a′ = determined a a′
+
+-- quoting: the same
+abbrev pub QuoteAllows : (value old : List ℕ) → Output → List ℕ → Type 0
+QuoteAllows value = Allowed (λ (o : List ℕ). quoteAnswer value (length o)) (quoteOut value)
+
+pub quote-special-chars-determined : (value old : List ℕ) {r r′ : Output} {x x′ : List ℕ}
+    → QuoteAllows value old r x → QuoteAllows value old r′ x′ → (r ≡ r′) × (x ≡ x′)
+quote-special-chars-determined value old a a′ = determined a a′
+
+-- calls that are lent nothing to change: the bytes of a part of a text, and the parameter at the front
+pub view-determined : (text : List ℕ) (start len : ℕ) {r r′ : List ℕ} → r ≡ viewed text start len → r′ ≡ viewed text start len → r ≡ r′
+view-determined text start len a a′ = a ∙ sym a′
+
+pub parameter-determined : (rest : List ℕ) {r r′ : Front} → r ≡ frontOf rest → r′ ≡ frontOf rest → r ≡ r′
+parameter-determined rest a a′ = a ∙ sym a′

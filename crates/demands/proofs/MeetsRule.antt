@@ -19,7 +19,8 @@ use Rattle.lines.specs.declared.Line.{Line}
 use Rattle.lines.specs.declared.Line.the-variants.{Empty, Begin, BadBegin, End, Content, Bad}
 use Rattle.lines.specs.declared.Property.{Property}
 use Rattle.lines.proofs.Split.{content-within}
-use Rattle.lines.proofs.Sound.{Sound, SoundProperty, sound}
+use Rattle.lines.specs.Sound.{Sound, SoundProperty}
+use Rattle.lines.proofs.Sound.{sound}
 use Rattle.octets.specs.declared.Span.{Span}
 use Rattle.tables.specs.Rows.{noParent, flat, rowAt, rowsOf}
 use Rattle.tables.specs.TableRule.{Opened, componentFits, opensAfter, propertyFits, brokenComponent, brokenProperty, broken}

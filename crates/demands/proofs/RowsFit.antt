@@ -16,9 +16,10 @@ use Rattle.parameters.specs.declared.Front.{Front}
 use Rattle.parameters.specs.declared.Front.the-variants.{NoParameter, Found}
 use Rattle.parameters.specs.Parameter.{frontOf}
 use Rattle.parameters.specs.Parameters.{moved, valueMoved, frontUsed, andLater, paramsAfter}
-use Rattle.parameters.proofs.Laws.{ValueWithin, found-inside}
+use Rattle.parameters.specs.Values.{ValueWithin}
+use Rattle.parameters.proofs.Laws.{found-inside}
 use Rattle.lines.specs.declared.Property.{Property}
-use Rattle.lines.proofs.Sound.{SoundProperty}
+use Rattle.lines.specs.Sound.{SoundProperty}
 use Rattle.tables.specs.Rows.{noParent}
 use Rattle.tables.specs.TableRule.{Opened, ancestors, some, parentFits, componentFits, propertyFits, parameterFits, brokenParameter, inside}
 use Rattle.tables.specs.declared.ParameterRow.{ParameterRow}

@@ -23,23 +23,9 @@ use Rattle.lines.specs.declared.Fault.the-variants.{BadLine}
 use Rattle.lines.specs.declared.Property.{Property}
 use Rattle.lines.specs.declared.Line.{Line}
 use Rattle.lines.specs.declared.Line.the-variants.{Empty, Begin, BadBegin, End, Content, Bad}
+use Rattle.lines.specs.Sound.{SoundProperty, Sound}
 use Rattle.lines.specs.Rule.{beginOf, valueFrom, byKey, beginMark, endMark, lineOf}
 use Rattle.lines.proofs.Rule.{key-within, passed-within}
-
-pub record SoundProperty (line : List ℕ) (p : Property) : Type 0 where
-  pub front : p .key .start ≡ 0
-  pub some : 0 < p .key .len
-  pub count : p .parameters ≡ length (paramsOf (drop (p .key .len) line) 0)
-  pub fewer : p .key .len + p .parameters ≤ length line
-  pub value : p .value .start + p .value .len ≤ length line
-
-abbrev pub Sound : List ℕ → Line → Type 0
-Sound line Empty = Unit
-Sound line (Begin name) = (name .start ≡ 6) × (6 + name .len ≡ length line)
-Sound line BadBegin = Unit
-Sound line (End rest) = (rest .start ≡ 4) × (4 + rest .len ≡ length line)
-Sound line (Content p) = SoundProperty line p
-Sound line (Bad fault) = Unit
 
 sound-begin : (line : List ℕ) → 6 ≤ length line → Sound line (beginOf line)
 sound-begin line h = go (ltb 0 (length line - 6) && eqb (run keyByte (drop 6 line)) (length line - 6))

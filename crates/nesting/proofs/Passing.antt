@@ -22,7 +22,8 @@ use Rattle.lines.specs.declared.Line.{Line}
 use Rattle.lines.specs.declared.Line.the-variants.{Empty, Begin, BadBegin, End, Content, Bad}
 use Rattle.lines.specs.declared.Property.{Property}
 use Rattle.lines.proofs.Split as split
-use Rattle.lines.proofs.Sound.{Sound, SoundProperty, sound}
+use Rattle.lines.specs.Sound.{Sound, SoundProperty}
+use Rattle.lines.proofs.Sound.{sound}
 use Rattle.nesting.specs.declared.Check.{Check}
 use Rattle.nesting.specs.declared.Counts.{Counts}
 use Rattle.nesting.specs.declared.Entry.{Entry}

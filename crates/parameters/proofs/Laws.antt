@@ -20,6 +20,7 @@ use Rattle.parameters.specs.declared.Value.the-variants.{Absent, Present
 use Rattle.parameters.specs.declared.Param.{Param}
 use Rattle.parameters.specs.declared.Front.the-variants.{NoParameter, Found}
 use Rattle.parameters.specs.Values.{span, formOf, formUsed, valueAt}
+use Rattle.parameters.specs.Values.{ValueWithin}
 use Rattle.parameters.specs.Parameter.{keyStart, keyEnd, param, withoutValue, withForm, paramOf, frontOf}
 use Rattle.parameters.proofs.Values.{inside-of, form-le}
 
@@ -47,11 +48,6 @@ module _ (rest : List ℕ) (opens : getD rest 0 0 ≡ semicolon) (start : ℕ) (
     front-form h form is = rw (eq-eqb _ _ opens, ← starts, ← runs, eq-eqb _ _ h, ← is)
 
 -- ---- where key and value lie
-
--- the value ends inside the first n bytes
-abbrev pub ValueWithin : Value → ℕ → Type 0
-ValueWithin Absent n = Unit {0}
-ValueWithin (Present s) n = s .start + s .len ≤ n
 
 pub record Inside (rest : List ℕ) (p : Param) : Type 0 where
   pub some : 0 < p .used

@@ -1,6 +1,6 @@
 -- The value of a parameter, in the bytes behind its `=` (document 01, "One parameter"; RFC 5545, section 3.1, `param-value` and `quoted-string`).
 -- Assumes nothing.
-use Prim.Native.Nat.{ℕ, zero, suc, _+_, _-_}
+use Prim.Native.Nat.{ℕ, zero, suc, _+_, _-_, _≤_}
 use mathlib.Core.Bool.{Bool, false, not, _&&_}
 use mathlib.Core.List.{List, [], _∷_}
 use lib.ListN.{length, getD, drop}
@@ -74,3 +74,8 @@ listedAll (Listed n) len = eqb n len
 -- document 01, "Writing and trees": the bytes are exactly a list of two or more quoted parts
 abbrev pub isList : List ℕ → Bool
 isList xs = listedAll (formOf xs) (length xs)
+
+-- the value ends inside the first n bytes
+abbrev pub ValueWithin : Value → ℕ → Type 0
+ValueWithin Absent n = Unit {0}
+ValueWithin (Present s) n = s .start + s .len ≤ n
