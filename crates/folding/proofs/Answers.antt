@@ -1,7 +1,7 @@
 -- Laws of what a fold answers: one for each way out, whichever fold it is. Assumes nothing.
-use mathlib.Core.Path.{_≡_, refl, ap, _∙_}
-use mathlib.Core.Bool.{Bool, true, false}
-use mathlib.Core.List.{List}
+use mathlib.Core.Path.{_≡_, refl, sym, ap, _∙_}
+use mathlib.Core.Bool.{Bool, true, false, _&&_, and-false}
+use mathlib.Core.List.{List, [], _∷_}
 use Prim.Native.Nat.{ℕ, _+_, _*_, _≤_, _<_}
 use native.Mathlib.Nat.{min-eq-left}
 use native.Mathlib.Omega.{arith}
@@ -14,25 +14,49 @@ use Rattle.octets.specs.Runs.{run, only}
 use Rattle.octets.specs.Laid.{counted}
 use Rattle.octets.specs.Answers.{longest, done, tooLong, hasBreak, notAscii, output, roomAnswer}
 use Rattle.octets.specs.declared.Output.{Output}
-use Rattle.folding.specs.Answers.{ascii, lineAnswer, foldAnswer}
+use Rattle.octets.proofs.Runs.{only-turn, only-ended}
+use Rattle.folding.specs.Answers.{ascii, foldable, lineAnswer, foldAnswer}
 
 -- ---- before the fold
+
+four : (a b c d : Bool) → (a && b) && (c && d) ≡ (a && c) && (b && d)
+four true true c d = refl
+four true false c d = sym (and-false c)
+four false b c d = refl
+
+-- every byte is of both classes: every one is of the first, and every one is of the second
+both : (f g : ℕ → Bool) (xs : List ℕ) → only (λ (x : ℕ). f x && g x) xs ≡ only f xs && only g xs
+both f g [] = only-ended (λ (x : ℕ). f x && g x) [] 0 (omega arith) ∙ sym (rw (only-ended f [] 0 (omega arith), only-ended g [] 0 (omega arith)))
+both f g (x ∷ xs) =
+    only-turn (λ (x : ℕ). f x && g x) (x ∷ xs) 0 (omega arith)
+    ∙ (ap (λ (t : Bool). (f x && g x) && t) (both f g xs)
+    ∙ (four (f x) (g x) (only f xs) (only g xs) ∙ sym (rw (only-turn f (x ∷ xs) 0 (omega arith), only-turn g (x ∷ xs) 0 (omega arith)))))
 
 module _ (line : List ℕ) where
   pub too-long : longest < length line → output tooLong 0 0 ≡ lineAnswer line
   too-long h = rw (lt-leb (length line) longest h)
 
-  module _ (h : length line ≤ longest) {n : ℕ} (e : n ≡ 0 + run (other lf) (drop 0 line)) where
-    pub has-break : n < length line → output hasBreak n 0 ≡ lineAnswer line
-    has-break k =
-        let r : n ≡ run (other lf) line = omega arith in
-        rw (le-leb (length line) longest h, lt-leb (length line) (run (other lf) line) (omega arith), r)
+  module _ (h : length line ≤ longest) where
+    pub nothing-wrong : only foldable line ≡ true → output done 0 0 ≡ lineAnswer line
+    nothing-wrong t = rw (le-leb (length line) longest h) (by (only (other lf) line) (only ascii line) (sym (both (other lf) ascii line) ∙ t))
+      where
+        by : (a b : Bool) → a && b ≡ true
+            → output done 0 0 ≡ pick a (pick b (output done 0 0) (output notAscii (run ascii line) 0)) (output hasBreak (run (other lf) line) 0)
+        by true true e = refl
+        by true false e = cc
+        by false b e = cc
 
-    pub not-ascii : length line ≤ n → only ascii line ≡ false → {m : ℕ} → m ≡ run ascii line → output notAscii m 0 ≡ lineAnswer line
-    not-ascii k t p = rw (le-leb (length line) longest h, le-leb (length line) (run (other lf) line) (omega arith), t, p)
+    module _ {n : ℕ} (e : n ≡ 0 + run (other lf) (drop 0 line)) where
+      pub has-break : n < length line → output hasBreak n 0 ≡ lineAnswer line
+      has-break k =
+          let r : n ≡ run (other lf) line = omega arith in
+          rw (le-leb (length line) longest h, lt-leb (length line) (run (other lf) line) (omega arith), r)
 
-    pub foldable : length line ≤ n → only ascii line ≡ true → output done 0 0 ≡ lineAnswer line
-    foldable k t = rw (le-leb (length line) longest h, le-leb (length line) (run (other lf) line) (omega arith), t)
+      pub not-ascii : length line ≤ n → only foldable line ≡ false → {m : ℕ} → m ≡ run ascii line → output notAscii m 0 ≡ lineAnswer line
+      not-ascii k t p =
+          let whole : only (other lf) line ≡ true = le-leb (length line) (run (other lf) line) (omega arith) in
+          let off : only ascii line ≡ false = rw whole at (sym (both (other lf) ascii line) ∙ t) in
+          rw (le-leb (length line) longest h, whole, off, p)
 
   -- a line that is folded is no longer than the limit
   pub short-enough : lineAnswer line .answer ≡ done → length line ≤ longest

@@ -1,7 +1,7 @@
 -- What a fold answers, and what the buffer holds then, whichever fold it is (document 01, "What each number returns and leaves").
 -- Assumes nothing.
 use Prim.Native.Nat.{ℕ}
-use mathlib.Core.Bool.{Bool}
+use mathlib.Core.Bool.{Bool, _&&_}
 use mathlib.Core.List.{List}
 use lib.ListN.{length}
 use lib.Dec.{eqb, leb}
@@ -14,6 +14,10 @@ use Rattle.octets.specs.declared.Output.{Output}
 -- a byte below 128
 abbrev pub ascii : ℕ → Bool
 ascii x = leb x 127
+
+-- a byte that refuses no line
+abbrev pub foldable : ℕ → Bool
+foldable x = other lf x && ascii x
 
 -- what refuses a line before it is folded, in the order of document 01: its length, an LF, a byte of 128 or more
 abbrev pub lineAnswer : List ℕ → Output

@@ -8,7 +8,7 @@ ghost use Rattle.octets.specs.Runs.{run, only};
 ghost use Rattle.folding.specs.Pieces.{brk};
 ghost use Rattle.folding.specs.Strict.{units, foldedUnits, foldedPiece, strict};
 ghost use Rattle.folding.specs.Repository.{cut, repository};
-ghost use Rattle.folding.specs.Answers.{ascii, lineAnswer, foldAnswer, foldOut};
+ghost use Rattle.folding.specs.Answers.{ascii, foldable, lineAnswer, foldAnswer, foldOut};
 use octets::Output;
 
 // How many octets the present physical line still takes.
@@ -95,14 +95,15 @@ fn fold_repository(line: &[u8], out: &mut [u8]) -> usize
     octets::lay(&line[at..], out, length)
 }
 
-// Whether every byte is below 128. The loop has no branch, so that it becomes vector code.
-fn all_ascii(line: &[u8]) -> bool
-    ensures { λ r. ⌜ r ≡ only ascii (now (line .entry)) ⌝ }
+// Whether no byte is an LF and every byte is below 128. The loop has no branch, so that it becomes vector code.
+fn all_foldable(line: &[u8]) -> bool
+    ensures { λ r. ⌜ r ≡ only foldable (now (line .entry)) ⌝ }
 {
     let mut fine = true;
     let mut i: usize = 0;
     while i < line.len() {
-        fine = fine & (line[i] <= 127);
+        let b = line[i];
+        fine = fine & (!(b == b'\n') & (b <= 127));
         i += 1;
     }
     fine
@@ -133,6 +134,14 @@ fn check_line(line: &[u8]) -> Output
             length: 0,
         };
     }
+    if all_foldable(line) {
+        return Output {
+            answer: octets::DONE,
+            place: 0,
+            length: 0,
+        };
+    }
+    // What is wrong is looked for only where something is.
     let end = octets::find_byte(line, 0, b'\n');
     if end < line.len() {
         return Output {
@@ -141,16 +150,9 @@ fn check_line(line: &[u8]) -> Output
             length: 0,
         };
     }
-    if !all_ascii(line) {
-        return Output {
-            answer: octets::NOT_ASCII,
-            place: ascii_run(line),
-            length: 0,
-        };
-    }
     Output {
-        answer: octets::DONE,
-        place: 0,
+        answer: octets::NOT_ASCII,
+        place: ascii_run(line),
         length: 0,
     }
 }

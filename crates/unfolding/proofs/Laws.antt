@@ -1,18 +1,19 @@
--- Laws of unfolding: lengths, seams between parts that unfold by themselves, and what becomes of bytes without LF.
+-- Laws of unfolding: lengths, seams between parts that unfold by themselves, and what becomes of bytes before a fold.
 -- Assumes nothing.
-use mathlib.Core.Path.{_≡_, refl, sym, ap, _∙_}
-use mathlib.Core.Bool.{Bool, true, false, _&&_, and-false}
+use mathlib.Core.Path.{_≡_, refl, ap, _∙_}
+use mathlib.Core.Bool.{Bool, true, false, _&&_, and-false, and-comm}
 use mathlib.Core.List.{List, [], _∷_, _++_, append-nil}
-use Prim.Native.Nat.{ℕ, suc, _≤_, zero-le}
+use Prim.Native.Nat.{ℕ, zero, suc, _≤_, zero-le}
 use native.Mathlib.Omega.{arith}
-use lib.ListN.{length, getD}
+use lib.ListN.{length, getD, take, drop, drop-of-length-le}
+use lib.Seq.{take-all}
 use lib.Dec.{eqb}
-use borrow.Author.Tests.{not-true}
 use Rattle.octets.specs.Bytes.{blank, cr, lf, other}
 use Rattle.octets.specs.Runs.{run}
-use Rattle.octets.proofs.Runs.{whole-head, whole-tail}
 use Rattle.unfolding.specs.Unfold.{goes, keep, unfolded, unfoldedAfter}
+use Rattle.unfolding.specs.Folds.{toFold}
 use Rattle.unfolding.proofs.Blanks.{blank-no-lf}
+use Rattle.unfolding.proofs.Folds.{breaks, ahead, none, past-others}
 
 -- ---- a turn, and lengths
 
@@ -99,39 +100,39 @@ line xs ys h = seam 0 xs cr (lf ∷ ys) refl refl ∙ rw (h, fresh lf ys (rw h))
 pub joined : (xs : List ℕ) (b : ℕ) (ys : List ℕ) → blank b ≡ true → unfolded (xs ++ cr ∷ lf ∷ b ∷ ys) ≡ unfolded xs ++ unfolded ys
 joined xs b ys h = seam 0 xs cr (lf ∷ b ∷ ys) refl refl ∙ rw (cr-break-goes (lastOf 0 xs) b ys h)
 
+-- ---- bytes before the first fold
+
+-- a CR goes only if it is the last of them
+no-cr-goes : (n x : ℕ) (xs : List ℕ) → n ≤ toFold xs → eqb (lastOf x (take n xs)) cr && breaks (drop n xs) ≡ false → eqb x cr && breaks xs ≡ false
+no-cr-goes zero x xs h c = c
+no-cr-goes (suc n) x [] h c = and-false (eqb x cr)
+no-cr-goes (suc n) x (y ∷ xs) h c = rw (ahead n y xs h .0) (and-false (eqb x cr))
+
+stays-after : (p n : ℕ) (xs : List ℕ) → blank (getD xs 0 0) && eqb p lf ≡ false → n ≤ toFold xs
+    → eqb (lastOf p (take n xs)) cr && breaks (drop n xs) ≡ false → unfoldedAfter p xs ≡ take n xs ++ unfolded (drop n xs)
+unfolding unfoldedAfter
+stays-after p zero xs f h c = fresh p xs f
+stays-after p (suc n) [] f h c = absurd (none n h)
+stays-after p (suc n) (x ∷ xs) f h c =
+    let a = ahead n x xs h in
+    rw (a .0, f, no-cr-goes n x xs (a .1) c) (ap (_∷_ x) (stays-after x n xs (and-comm (blank (getD xs 0 0)) (eqb x lf) ∙ a .0) (a .1) c))
+
+-- they stay, be they n or all, unless their last is a CR that the fold takes along
+pub stays : (n : ℕ) (xs : List ℕ) → n ≤ toFold xs → eqb (lastOf 0 (take n xs)) cr && breaks (drop n xs) ≡ false
+    → unfolded xs ≡ take n xs ++ unfolded (drop n xs)
+stays n xs h c = stays-after 0 n xs (and-false (blank (getD xs 0 0))) h c
+
 -- ---- bytes without LF
 
 -- every byte is other than LF
 abbrev pub Unbroken : List ℕ → Type 0
 Unbroken xs = run (other lf) xs ≡ length xs
 
--- an LF and a blank stand at the front
-abbrev pub breaks : List ℕ → Bool
-breaks ys = eqb (getD ys 0 0) lf && blank (getD ys 1 0)
-
-first-no-lf : (x : ℕ) (xs : List ℕ) → Unbroken (x ∷ xs) → eqb x lf ≡ false
-first-no-lf x xs w = not-true (eqb x lf) (whole-head (other lf) x xs w)
-
--- a CR goes only if it is the last byte of xs, and a break follows
-no-cr-goes : (x : ℕ) (xs ys : List ℕ) → Unbroken (x ∷ xs) → eqb (lastOf x xs) cr && breaks ys ≡ false → eqb x cr && breaks (xs ++ ys) ≡ false
-no-cr-goes x [] ys w h = h
-no-cr-goes x (y ∷ xs) ys w h = rw (first-no-lf y xs (whole-tail (other lf) x (y ∷ xs) w)) (and-false (eqb x cr))
-
-stays-after : (p : ℕ) (xs ys : List ℕ) → eqb p lf ≡ false → Unbroken xs → eqb (lastOf p xs) cr && breaks ys ≡ false
-    → unfoldedAfter p (xs ++ ys) ≡ xs ++ unfolded ys
-unfolding unfoldedAfter
-stays-after p [] ys l w h = fresh p ys (rw l (and-false (blank (getD ys 0 0))))
-stays-after p (x ∷ xs) ys l w h =
-    rw (first-no-lf x xs w, l, and-false (blank x), no-cr-goes x xs ys w h)
-    (ap (_∷_ x) (stays-after x xs ys (first-no-lf x xs w) (whole-tail (other lf) x xs w) h))
-
--- they stay, whatever follows, unless their last is a CR that a break takes along
-pub stays : (xs ys : List ℕ) → Unbroken xs → eqb (lastOf 0 xs) cr && breaks ys ≡ false → unfolded (xs ++ ys) ≡ xs ++ unfolded ys
-stays xs ys w h = stays-after 0 xs ys refl w h
-
 pub unbroken : (xs : List ℕ) → Unbroken xs → unfolded xs ≡ xs
-unfolding unfoldedAfter
-unbroken xs w = rw append-nil at (stays xs [] w (and-false (eqb (lastOf 0 xs) cr)))
+unbroken xs w =
+    let d : drop (length xs) xs ≡ [] = drop-of-length-le xs {i = length xs} (omega arith) in
+    stays (length xs) xs (omega (arith, past-others xs)) (rw d (and-false (eqb (lastOf 0 (take (length xs) xs)) cr)))
+    ∙ rw (d, nothing 0, append-nil, take-all (length xs) xs (omega arith))
 
 -- a fold: a piece of a line, then CR LF and a blank, then the rest of the line, folded or not
 pub piece : (xs : List ℕ) (b : ℕ) (ys : List ℕ) → Unbroken xs → blank b ≡ true → unfolded (xs ++ cr ∷ lf ∷ b ∷ ys) ≡ xs ++ unfolded ys

@@ -1,5 +1,5 @@
 pub mod Blanks
 pub mod OnePass
-pub mod Examples
+pub mod Folds
 pub mod Laws
 pub mod Pieces

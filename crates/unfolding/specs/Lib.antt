@@ -1,3 +1,4 @@
 pub mod Unfold
 pub mod OnePass
+pub mod Folds
 pub mod Parts

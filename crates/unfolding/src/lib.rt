@@ -1,8 +1,9 @@
 // Unfolding of the lines of a calendar feed (RFC 5545, section 3.1), over the bytes as they came.
 ghost use mathlib.Core.Path.{_≡_};
-ghost use Prim.Native.Nat.{_<_};
-ghost use lib.ListN.{length, getD};
-ghost use Rattle.octets.specs.Bytes.{blank};
+ghost use mathlib.Core.Bool.{false};
+ghost use Prim.Native.Nat.{_+_, _≤_, _<_};
+ghost use lib.ListN.{length, drop};
+ghost use Rattle.unfolding.specs.Folds.{isFold, toFold};
 ghost use Rattle.unfolding.specs.Parts.{Stays, Unfolding};
 
 // A run of bytes that stay ends at `end`, and all up to `next` goes.
@@ -11,41 +12,83 @@ struct Piece {
     next: usize,
 }
 
-// Whether a blank stands at i.
-fn blank_at(feed: &[u8], i: usize) -> bool
-    ensures { λ r. ⌜ r ≡ blank (getD (now (feed .entry)) i 0) ⌝ }
+// Whether the bytes are an LF and a blank.
+fn is_fold(b: u8, behind: u8) -> bool
+    ensures { λ r. ⌜ r ≡ isFold b behind ⌝ }
 {
-    if i < feed.len() {
-        let b = feed[i];
-        return (b == b' ') | (b == b'\t');
-    }
-    false
+    (b == b'\n') & ((behind == b' ') | (behind == b'\t'))
 }
 
-// The piece at i: up to the break and with it, where the break stays; else without the break and a CR directly before it.
+// Whether a fold stands at one of the 32 bytes from `at` on. The loops have no branch, so that they become vector code.
+fn any_fold_of_32(feed: &[u8], at: usize) -> bool
+    requires { ⌜ at + 33 ≤ length (now feed) ⌝ }
+    ensures { λ r. ⌜ (r ≡ false → toFold (drop at (now (feed .entry))) ≡ 32 + toFold (drop (at + 32) (now (feed .entry)))) ⌝ }
+{
+    // Most of a long line holds no LF at all, which takes half as long to see.
+    let mut broken = false;
+    let mut k: usize = 0;
+    while k < 32 {
+        broken = broken | (feed[at + k] == b'\n');
+        k += 1;
+    }
+    if !broken {
+        return false;
+    }
+    let mut hit = false;
+    let mut j: usize = 0;
+    while j < 32 {
+        let i = at + j;
+        hit = hit | is_fold(feed[i], feed[i + 1]);
+        j += 1;
+    }
+    hit
+}
+
+// The place of the first fold from `from` on, or the end. Lines that are not folded are passed over in blocks.
+fn next_fold(feed: &[u8], from: usize) -> usize
+    requires { ⌜ from < length (now feed) ⌝ }
+    ensures { λ r. ⌜ r ≡ from + toFold (drop from (now (feed .entry))) ⌝ }
+{
+    let last = feed.len() - 1;
+    let mut i = octets::find_byte(feed, from, b'\n');
+    while i < last {
+        if last - i < 32 {
+            break;
+        }
+        if any_fold_of_32(feed, i) {
+            break;
+        }
+        i += 32;
+    }
+    while i < last {
+        if is_fold(feed[i], feed[i + 1]) {
+            return i;
+        }
+        i += 1;
+    }
+    feed.len()
+}
+
+// The piece at i: up to the next fold, without a CR directly before it. What goes is the break and one blank.
 fn piece_at(feed: &[u8], i: usize) -> Piece
     requires { ⌜ i < length (now feed) ⌝ }
     ensures { λ r. ⌜ Stays (now (feed .entry)) i r ⌝ }
 {
-    let lf = octets::find_byte(feed, i, b'\n');
-    if lf == feed.len() {
-        return Piece { end: lf, next: lf };
-    }
-    let behind = lf + 1;
-    if !blank_at(feed, behind) {
+    let fold = next_fold(feed, i);
+    if fold == feed.len() {
         return Piece {
-            end: behind,
-            next: behind,
+            end: fold,
+            next: fold,
         };
     }
-    let next = lf + 2;
-    if i < lf {
-        let last = lf - 1;
+    let next = fold + 2;
+    if i < fold {
+        let last = fold - 1;
         if feed[last] == b'\r' {
             return Piece { end: last, next };
         }
     }
-    Piece { end: lf, next }
+    Piece { end: fold, next }
 }
 
 // Lays the unfolded feed over the front of text, as far as it goes, and returns its whole length.
