@@ -1,0 +1,56 @@
+-- `canonical::first_property` is safe and ends: the measure is the rows that are left.
+-- Assumes nothing.
+use Prim.Native.Nat.{_-_, _/_}
+use lib.ListN.{length}
+use borrow.Author.Needs.{needs}
+use Rattle.canonical.proofs.first_property.Statement.{statement}
+use Rattle.canonical.proofs.first_property.Tie as tie
+
+abbrev Inv-loop : tie.InvT-loop
+Inv-loop properties owner from i₀ i = Unit {0}
+
+abbrev μ-loop : tie.MeasureT-loop
+μ-loop properties owner from i₀ i = length properties / 5 - i
+
+loop-holds : tie.Need-loop-holds Inv-loop μ-loop
+loop-holds c = search needs
+
+property-rows-requires : tie.Need-property-rows-requires Inv-loop μ-loop
+property-rows-requires c κs = search needs
+
+property-at-requires : tie.Need-property-at-requires Inv-loop μ-loop
+property-at-requires c κs = search needs
+
+wide-requires : tie.Need-wide-requires Inv-loop μ-loop
+wide-requires c κs = search needs
+
+returns : tie.Need-returns Inv-loop μ-loop
+returns c = search needs
+
+add-i : tie.Need-add-i Inv-loop μ-loop
+add-i c = search needs
+
+loop-less : tie.Need-loop-less Inv-loop μ-loop
+loop-less c = search needs
+
+loop-again : tie.Need-loop-again Inv-loop μ-loop
+loop-again c = search needs
+
+returns-2 : tie.Need-returns-2 Inv-loop μ-loop
+returns-2 c = search needs
+
+pub first-property-spec : {M : Type 1} → statement M
+first-property-spec =
+    tie.close
+    (tie.spec
+    Inv-loop
+    μ-loop
+    loop-holds
+    property-rows-requires
+    property-at-requires
+    wide-requires
+    returns
+    add-i
+    loop-less
+    loop-again
+    returns-2)

@@ -1,0 +1,237 @@
+// Runs the boundaries of the documents for real, each on both sides, and prints what was answered: a line for each.
+use octets::Output;
+use trial::say;
+use trial::say_number;
+use trial::say_reading;
+
+fn say_output(o: Output) {
+    say_number(o.answer as usize);
+    say_number(o.place);
+    say_number(o.length);
+    say(b"\n");
+}
+
+// Reads a front of the feed, of 1,048,576 bytes or of one more.
+fn read_long(feed: &[u8], text: &mut [u8]) {
+    let mut components = [0u32; 4];
+    let mut properties = [0u32; 5];
+    let mut parameters = [0u32; 0];
+    let r = reading::read_components(
+        feed,
+        text,
+        &mut components,
+        &mut properties,
+        &mut parameters,
+    );
+    say_reading(r);
+}
+
+// An array of this size is lent as a slice only by way of a function that takes the array.
+fn longest_feeds(feed: &mut [u8; 1048577], text: &mut [u8; 1048577]) {
+    say(b"feed of 1048576 bytes:");
+    trial::stretch(1048576, feed);
+    read_long(octets::view(feed, 0, 1048576), text);
+    say(b"feed of 1048577 bytes:");
+    trial::stretch(1048577, feed);
+    read_long(feed, text);
+}
+
+fn longest_values(value: &[u8; 1048577], out: &mut [u8; 1048577]) {
+    say(b"quoting 1048576 bytes:");
+    say_output(quoting::quote_special_chars(octets::view(value, 0, 1048576), out));
+    say(b"quoting 1048577 bytes:");
+    say_output(quoting::quote_special_chars(value, out));
+    say(b"folding 1048577 bytes:");
+    say_output(folding::fold_strict(value, out));
+}
+
+fn read_with_rows(
+    feed: &[u8],
+    text: &mut [u8],
+    components: &mut [u32],
+    properties: &mut [u32],
+    parameters: &mut [u32],
+) {
+    say_reading(reading::read_components(feed, text, components, properties, parameters));
+}
+
+// So many components inside each other.
+fn nest(depth: usize) {
+    let mut feed = [0u8; 1024];
+    let n = trial::nest(depth, &mut feed);
+    let mut text = [0u8; 1024];
+    let mut components = [0u32; 260];
+    let mut none = [0u32; 0];
+    let mut nothing = [0u32; 0];
+    read_with_rows(
+        octets::view(&feed, 0, n),
+        &mut text,
+        &mut components,
+        &mut none,
+        &mut nothing,
+    );
+}
+
+// Two components, two properties, two parameters, and 49 bytes of unfolded text.
+fn read_small(
+    text: &mut [u8],
+    components: &mut [u32],
+    properties: &mut [u32],
+    parameters: &mut [u32],
+) {
+    read_with_rows(
+        b"BEGIN:A\r\nK;P=1;Q:v\r\n w\r\nBEGIN:B\r\nL:x\r\nEND:B\r\nEND:A\r\n",
+        text,
+        components,
+        properties,
+        parameters,
+    );
+}
+
+// Every buffer exactly full: 49 bytes of text, two rows in each table.
+fn full() {
+    let mut text = [0u8; 49];
+    let mut components = [0u32; 8];
+    let mut properties = [0u32; 10];
+    let mut parameters = [0u32; 12];
+    say(b"text and tables exactly full:");
+    read_small(&mut text, &mut components, &mut properties, &mut parameters);
+}
+
+fn short_text() {
+    let mut text = [0u8; 48];
+    let mut components = [0u32; 8];
+    let mut properties = [0u32; 10];
+    let mut parameters = [0u32; 12];
+    say(b"text one byte short:");
+    read_small(&mut text, &mut components, &mut properties, &mut parameters);
+}
+
+fn short_components() {
+    let mut text = [0u8; 49];
+    let mut components = [0u32; 7];
+    let mut properties = [0u32; 10];
+    let mut parameters = [0u32; 12];
+    say(b"components one word short:");
+    read_small(&mut text, &mut components, &mut properties, &mut parameters);
+}
+
+fn short_properties() {
+    let mut text = [0u8; 49];
+    let mut components = [0u32; 8];
+    let mut properties = [0u32; 9];
+    let mut parameters = [0u32; 12];
+    say(b"properties one word short:");
+    read_small(&mut text, &mut components, &mut properties, &mut parameters);
+}
+
+fn short_parameters() {
+    let mut text = [0u8; 49];
+    let mut components = [0u32; 8];
+    let mut properties = [0u32; 10];
+    let mut parameters = [0u32; 11];
+    say(b"parameters one word short:");
+    read_small(&mut text, &mut components, &mut properties, &mut parameters);
+}
+
+fn uneven() {
+    let mut text = [0u8; 49];
+    let mut components = [0u32; 11];
+    let mut properties = [0u32; 14];
+    let mut parameters = [0u32; 17];
+    say(b"lengths that are no multiple of their rows:");
+    read_small(&mut text, &mut components, &mut properties, &mut parameters);
+}
+
+fn empty_feed() {
+    let mut text = [0u8; 0];
+    let mut components = [0u32; 0];
+    let mut properties = [0u32; 0];
+    let mut parameters = [0u32; 0];
+    say(b"empty feed into empty buffers:");
+    read_with_rows(
+        b"",
+        &mut text,
+        &mut components,
+        &mut properties,
+        &mut parameters,
+    );
+}
+
+fn empty_lines() {
+    let mut text = [0u8; 5];
+    let mut components = [0u32; 4];
+    let mut properties = [0u32; 5];
+    let mut parameters = [0u32; 6];
+    say(b"empty lines alone:");
+    read_with_rows(
+        b"\r\n\n\r\n",
+        &mut text,
+        &mut components,
+        &mut properties,
+        &mut parameters,
+    );
+}
+
+fn fold_75() {
+    let line = [b'a'; 75];
+    let mut full = [0u8; 75];
+    let mut short = [0u8; 74];
+    say(b"folding 75 letters, exactly full:");
+    say_output(folding::fold_strict(&line, &mut full));
+    say(b"folding 75 letters, one short:");
+    say_output(folding::fold_strict(&line, &mut short));
+}
+
+fn fold_76() {
+    let line = [b'a'; 76];
+    let mut full = [0u8; 79];
+    let mut short = [0u8; 78];
+    say(b"folding 76 letters, exactly full:");
+    say_output(folding::fold_strict(&line, &mut full));
+    say(b"folding 76 letters, one short:");
+    say_output(folding::fold_strict(&line, &mut short));
+}
+
+fn fold_76_as_the_repository() {
+    let line = [b'a'; 76];
+    let mut full = [0u8; 79];
+    let mut short = [0u8; 78];
+    say(b"folding 76 letters as the repository, exactly full:");
+    say_output(folding::fold_line(&line, &mut full));
+    say(b"folding 76 letters as the repository, one short:");
+    say_output(folding::fold_line(&line, &mut short));
+}
+
+fn quote() {
+    let mut full = [0u8; 5];
+    let mut short = [0u8; 4];
+    say(b"quoting a,b, exactly full:");
+    say_output(quoting::quote_special_chars(b"a,b", &mut full));
+    say(b"quoting a,b, one short:");
+    say_output(quoting::quote_special_chars(b"a,b", &mut short));
+}
+
+fn main() {
+    let mut feed = [b'a'; 1048577];
+    let mut text = [0u8; 1048577];
+    longest_feeds(&mut feed, &mut text);
+    let line = [b'a'; 1048577];
+    longest_values(&line, &mut text);
+    say(b"depth 64:");
+    nest(64);
+    say(b"depth 65:");
+    nest(65);
+    empty_feed();
+    empty_lines();
+    full();
+    short_text();
+    short_components();
+    short_properties();
+    short_parameters();
+    uneven();
+    fold_75();
+    fold_76();
+    fold_76_as_the_repository();
+    quote();
+}

@@ -1,0 +1,76 @@
+-- `listing::lay_property`: owner, key and value.
+use mathlib.Core.Path.{refl, ap}
+use mathlib.Core.List.{List, _++_}
+use native.Mathlib.Omega.{arith}
+use Rattle.listing.proofs.Onward.{start, more, end, from-as}
+use Rattle.listing.specs.Texts.{field, decimal}
+use Rattle.listing.specs.Lines.{propertyLine}
+use Rattle.octets.specs.Views.{viewed}
+use Rattle.octets.specs.Bytes.{space, lf}
+use Prim.Native.Nat.{ℕ}
+use borrow.Author.Needs.{needs}
+use Rattle.listing.proofs.lay_property.Statement.{statement}
+use Rattle.listing.proofs.lay_property.Tie as tie
+
+cast-view : tie.Need-cast-view
+cast-view c = search needs
+
+cast-view-2 : tie.Need-cast-view-2
+cast-view-2 c = search needs
+
+view-requires : tie.Need-view-requires
+view-requires c κs = search needs
+
+cast-view-3 : tie.Need-cast-view-3
+cast-view-3 c = search needs
+
+cast-view-4 : tie.Need-cast-view-4
+cast-view-4 c = search needs
+
+view-requires-2 : tie.Need-view-requires-2
+view-requires-2 c κs = search needs
+
+cast-lay-number : tie.Need-cast-lay-number
+cast-lay-number c = search needs
+
+lay-number-requires : tie.Need-lay-number-requires
+lay-number-requires c κs = search needs
+
+lay-field-requires : tie.Need-lay-field-requires
+lay-field-requires c κs = search needs
+
+lay-field-requires-2 : tie.Need-lay-field-requires-2
+lay-field-requires-2 c κs = search needs
+
+same-length : tie.Need-same-length
+same-length c = search needs
+
+returns : tie.Need-returns
+returns c =
+    let s = c .before .before .before .before .before .before .before .before .before .before .before .before .before .before .before .before .before .before .before .before .before in
+    let a = s .args in
+    let row = a .row in
+    let text = a .text .now in
+    let key = viewed text (row .«key_start») (row .«key_len») in
+    let value = viewed text (row .«value_start») (row .«value_len») in
+    let w0 = start (a .at) (a .out .now) (propertyLine text row) in
+    let w1 = more w0 (omega arith) (field (decimal (row .owner)) space) (field key space ++ field value lf) refl (c .before .before .before .before .before .before .before .before .before .before .lay-number .ensures) in
+    let w2 = more w1 (omega arith) (field key space) (field value lf) refl (from-as _ _ (ap (λ (k : List ℕ). field k space) (c .before .before .before .before .before .before .before .before .before .before .before .before .before .before .before .before .view .ensures)) (c .before .before .before .before .before .before .lay-field .ensures)) in
+    end w2 (from-as _ _ (ap (λ (k : List ℕ). field k lf) (c .before .before .before .before .before .before .before .before .before .before .before .before .before .view2 .ensures)) (c .before .before .lay-field2 .ensures))
+
+pub lay-property-spec : {M : Type 1} → statement M
+lay-property-spec =
+    tie.close
+    (tie.spec
+    cast-view
+    cast-view-2
+    view-requires
+    cast-view-3
+    cast-view-4
+    view-requires-2
+    cast-lay-number
+    lay-number-requires
+    lay-field-requires
+    lay-field-requires-2
+    same-length
+    returns)

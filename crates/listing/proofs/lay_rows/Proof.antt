@@ -1,0 +1,65 @@
+-- `listing::lay_rows`: the lines so far, and those to come.
+use mathlib.Core.Path.{_≡_}
+use native.Mathlib.Omega.{arith}
+use Rattle.listing.proofs.Onward.{start, more, end, stays}
+use Rattle.listing.specs.Lines.{rowLine, linesFrom}
+use Prim.Native.Nat.{_+_, _-_, _≤_}
+use native.Mathlib.Nat.{lt-of-lt-of-le}
+use Rattle.octets.specs.Laid.{most}
+use Rattle.listing.proofs.Onward.{Onward}
+use Rattle.listing.proofs.Laws.{next-line, no-lines}
+use Rattle.listing.proofs.lay_rows.Statement.{statement}
+use Rattle.listing.proofs.lay_rows.Tie as tie
+
+abbrev Inv-loop : tie.InvT-loop
+Inv-loop which text table count out₀ at to₀ row₀ out to row =
+    (row ≤ count) × ((to ≤ most) × Onward at out₀ (linesFrom (rowLine which text table) 0 count) out (linesFrom (rowLine which text table) row (count - row)) to)
+
+abbrev μ-loop : tie.MeasureT-loop
+μ-loop which text table count out₀ at to₀ row₀ out to row = count - row
+
+loop-holds : tie.Need-loop-holds Inv-loop μ-loop
+loop-holds c =
+    let a = c .before .before .before .args in
+    let e : a .count - 0 ≡ a .count = omega arith in
+    (omega arith, (omega arith, rw e (start (a .at) (a .out .now) (linesFrom (rowLine (a .which) (a .text .now) (a .table .now)) 0 (a .count)))))
+
+lay-row-requires : tie.Need-lay-row-requires Inv-loop μ-loop
+lay-row-requires c κs = lt-of-lt-of-le (c .before .loop-test .taken) (c .before .before .before .before .before .before .pre)
+
+add-row : tie.Need-add-row Inv-loop μ-loop
+add-row c = omega arith
+
+loop-less : tie.Need-loop-less Inv-loop μ-loop
+loop-less c = omega arith
+
+loop-again : tie.Need-loop-again Inv-loop μ-loop
+loop-again c =
+    let a = c .before .before .before .before .before .before .before .before .before .args in
+    let line = rowLine (a .which) (a .text .now) (a .table .now) in
+    let l = c .before .before .before .before .before .loop in
+    (omega arith, (omega (arith, c .before .before .lay-row .ensures .0), more (l .inv .1 .1) (omega arith) (line (l .row)) (linesFrom line (l .row + 1) (a .count - (l .row + 1))) (next-line line (l .row) (a .count) (c .before .before .before .before .loop-test .taken)) (c .before .before .lay-row .ensures)))
+
+same-length : tie.Need-same-length Inv-loop μ-loop
+same-length c = c .before .loop .inv .1 .1 .same
+
+returns : tie.Need-returns Inv-loop μ-loop
+returns c =
+    let a = c .before .before .before .before .before .args in
+    let line = rowLine (a .which) (a .text .now) (a .table .now) in
+    let l = c .before .loop in
+    end (l .inv .1 .1) (rw (no-lines line (l .row) (a .count) (c .loop-test .left)) (stays (l .to) (l .out) (l .inv .1 .0)))
+
+pub lay-rows-spec : {M : Type 1} → statement M
+lay-rows-spec =
+    tie.close
+    (tie.spec
+    Inv-loop
+    μ-loop
+    loop-holds
+    lay-row-requires
+    add-row
+    loop-less
+    loop-again
+    same-length
+    returns)

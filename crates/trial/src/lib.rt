@@ -1,0 +1,51 @@
+// What the programs that run examples share: saying what came out, and making feeds of a size.
+use libc::STDOUT_FILENO;
+use reading::Reading;
+
+pub fn say(words: &[u8]) {
+    io::write_all(STDOUT_FILENO, words);
+}
+
+// A space and a number.
+pub fn say_number(n: usize) {
+    say(b" ");
+    io::print_decimal(STDOUT_FILENO, n as u64);
+}
+
+// The six numbers of a reading, to the end of the line.
+pub fn say_reading(r: Reading) {
+    say_number(r.answer as usize);
+    say_number(r.place);
+    say_number(r.length);
+    say_number(r.components);
+    say_number(r.properties);
+    say_number(r.parameters);
+    say(b"\n");
+}
+
+// Lays the words so many times, and counts the bytes.
+fn repeat(words: &[u8], times: usize, out: &mut [u8], at: usize) -> usize {
+    let mut to = at;
+    let mut left = times;
+    while left > 0 {
+        left -= 1;
+        to = octets::lay(words, out, to);
+    }
+    to
+}
+
+// A feed of so many components inside each other, and how many bytes it has.
+pub fn nest(depth: usize, out: &mut [u8]) -> usize {
+    let inner = repeat(b"BEGIN:A\n", depth, out, 0);
+    repeat(b"END:A\n", depth, out, inner)
+}
+
+// A feed of so many bytes: a component with one property, whose value is what stood in the buffer.
+pub fn stretch(size: usize, out: &mut [u8]) {
+    octets::put(b"BEGIN:A\nK:", out);
+    let end = b"\nEND:A\n";
+    if size < end.len() {
+        return;
+    }
+    octets::lay(end, out, size - end.len());
+}

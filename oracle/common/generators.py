@@ -1,0 +1,514 @@
+"""Cases for the oracle and for our side, inside the comparison domain of each part (see README.md).
+
+First the fixed cases (short ones exhaustively, boundary lengths), then random and damaged ones.
+"""
+
+import itertools
+import random
+import re
+import string
+
+LIMIT = 65_536          # the longest case: `replay` takes no longer ones
+
+
+def symbols(text):
+    return [c.encode() for c in text]
+
+
+NASTY = symbols(';:=",A \t\r\n\\.')
+ASCII = [bytes([c]) for c in range(128)]
+UTF8 = symbols("é☃\u0085\u00a0\u2028\ufeff²😀")
+KEY_BYTES = (string.ascii_letters + string.digits + ".,/_-").encode()
+WORDS = [b"BEGIN", b"END", b"begin", b"eNd", b"BEGI", b"N", b":", b";", b"=", b" ", b"\n", b"\r",
+         b"A", b".", b",", b"/", b"_", b"-", b"9", b"\x7f", b"@", b"[", b"`", b"{"]
+
+
+def exhaustive(alphabet, most, before=b"", after=b""):
+    """Every string of at most so many symbols, between `before` and `after`."""
+    for n in range(most + 1):
+        for t in itertools.product(alphabet, repeat=n):
+            yield before + b"".join(t) + after
+
+
+def word(rng, alphabet, least, most):
+    return b"".join(rng.choices(alphabet, k=rng.randint(least, most)))
+
+
+def damaged(rng, data, alphabet):
+    """A few symbols of valid UTF-8 replaced, dropped, put in, doubled or swapped."""
+    s = symbols(data.decode())
+    for _ in range(rng.choice((1, 1, 2, 4))):
+        i = rng.randrange(len(s) + 1)
+        how = rng.randrange(5)
+        if how == 0:
+            s[i:i + 1] = [rng.choice(alphabet)]
+        elif how == 1:
+            del s[i:i + rng.choice((1, 1, 3))]
+        elif how == 2:
+            s.insert(i, rng.choice(alphabet))
+        elif how == 3:
+            s[i:i] = s[max(0, i - rng.randint(1, 6)):i]
+        else:
+            s[i:i + 2] = s[i:i + 2][::-1]
+    return b"".join(s)
+
+
+# ---------------------------------------------------------------- unfolding: valid UTF-8
+
+def unfold_fixed():
+    yield from exhaustive(symbols("A\r\n \t"), 7)
+    for piece in (b"A", b"\n ", b"\r\n\t", b"\r\r\n ", b"ab\r\n c", b"\n", " é\n".encode()):
+        yield (piece * LIMIT)[:LIMIT - len(piece)] + piece
+
+
+def unfold_random(rng):
+    while True:
+        yield word(rng, symbols("\r\n \tA\x00\x0b") + UTF8 + [b"\r\n ", b"\n\t"], 0, 60)
+        yield damaged(rng, rng.choice((b"BEGIN:A\r\nK:long\r\n er\r\n\t text\r\n \r\nEND:A\r\n", b"a\n b\n\n  c\n\td\n")), symbols("A\r\n \t"))
+
+
+# ---------------------------------------------------------------- keys: ASCII
+
+def key_fixed():
+    yield from exhaustive(ASCII, 2)
+    yield from exhaustive(WORDS, 3)
+    for start in (b"BEGIN", b"END", b"begin", b"End", b"A"):
+        for byte in ASCII:
+            yield start + byte
+            yield start + byte + b"A"
+    for n in (LIMIT - 1, LIMIT):
+        yield b"K" * n
+        yield (b"BEGIN" + b"K" * n)[:n - 1] + b":"
+
+
+def key_random(rng):
+    while True:
+        yield word(rng, ASCII + WORDS * 4, 0, 30)
+        yield damaged(rng, rng.choice((b"BEGIN:A", b"END;x", b"SUMMARY;A=b:c", b"BEGINNING", b"a.b/c,d_e-f:1")), ASCII)
+
+
+# ---------------------------------------------------------------- parameters: ASCII
+
+def param_fixed():
+    yield from exhaustive(NASTY, 3)
+    yield from exhaustive(NASTY, 4, b";")
+    yield from exhaustive(NASTY, 4, b";K=")
+    yield from exhaustive(symbols('",a:'), 7, b";K=")
+    for byte in ASCII:
+        for form in (b";%s", b";K%s", b";K=%s", b';K="%s"', b';K="a"%s', b';K="a","b"%s', b"; %sK=v", b";K=v%s"):
+            yield form % byte
+            yield form % byte + b":x"
+    for n in (LIMIT - 1, LIMIT):
+        for form in (b";%s", b";K=%s", b';K="%s"', b';K="a","%s"', b"; %s"):
+            yield form % (b"v" * (n - len(form) + 2))
+    yield b";K=" + b",".join([b'"a"'] * (LIMIT // 4 - 1)) + b":"
+    yield b";A;B=;C=d" * (LIMIT // 9)
+
+
+def param_random(rng):
+    sound = [b';CN="A:B";RSVP:x', b';A="x;y:z";B=;C;;=q:v', b';A="a","b","c";D=e', b';K="",x;L=y:', b"; \tA=b c;D"]
+    while True:
+        yield word(rng, NASTY + [b'"', b'"', b'","', b";K=", b'="', b"b"], 6, 60)
+        yield b";" + word(rng, ASCII + symbols(';=",') * 12, 1, 60)
+        yield damaged(rng, rng.choice(sound), NASTY)
+
+
+# ---------------------------------------------------------------- fold: ASCII without LF
+
+BLANKS = symbols(" \t\r\x0b\x0c\x1c\x1f")
+
+
+def fold_fixed():
+    for n in range(400):
+        for byte in symbols("A \t\r"):
+            yield byte * n
+    for n in (76, 77, 149, 150, 151, 152, 223, 224, 225, 226, 299):
+        for at in range(60, n):
+            for byte in BLANKS:
+                yield b"A" * at + byte + b"A" * (n - at - 1)
+    for byte in ASCII:
+        if byte != b"\n":
+            for tail in (0, 1, 2, 72, 73, 74, 75, 76, 77, 147, 148, 149, 150):
+                yield b"A" * 75 + byte + b"B" * tail
+                yield b"A" * 74 + byte * 2 + b"B" * tail
+    for n in (4096, LIMIT - 1, LIMIT):
+        yield (b"abc def " * n)[:n]
+
+
+def fold_random(rng):
+    while True:
+        yield word(rng, symbols("Abcd\x00\x7f") + BLANKS, 0, 400)
+        yield damaged(rng, word(rng, symbols("abcdef  "), 70, 320), [b for b in ASCII if b != b"\n"])
+
+
+# ---------------------------------------------------------------- quoting: valid UTF-8
+
+def quote_fixed():
+    yield from exhaustive(NASTY, 4)
+    for byte in ASCII:
+        for form in (b"%s", b"a%sb", b'"%s"', b'"%s', b'%s"'):
+            yield form % byte
+    for n in (LIMIT - 1, LIMIT):
+        for form in (b"%s", b"%s:", b'"%s,"', b",%s"):
+            yield form % (b"q" * (n - len(form) + 2))
+
+
+def quote_random(rng):
+    while True:
+        yield word(rng, NASTY + UTF8 + [b'"', b":"], 0, 20)
+        yield damaged(rng, rng.choice((b'"mailto:a@b","mailto:c@d"', b"a:b", b"plain text", b'"x"')), NASTY + UTF8)
+
+
+# ---------------------------------------------------------------- trees, for reading and writing
+# A tree: (name, [(key, [parameter], value)], [child]). A parameter: (key, value or None, its text).
+
+def fit_key(k, may_be_empty=False):
+    k = bytes(c for c in k if c in KEY_BYTES)
+    return k + b"-" if k.lower() in (b"begin", b"end") else k if k or may_be_empty else b"K"
+
+
+def fit_value(v):
+    """Not empty, no CR, LF or backslash, no blank in front."""
+    return re.sub(rb"[\r\n\\]", b"", v).lstrip(b" \t") or b"v"
+
+
+def fit_bare(v):
+    """A value without quotes around it: not empty, no CR, LF, `;` or `:`. A quote in front is
+    closed at once: otherwise a quoted value would stand there, or an unclosed one."""
+    v = re.sub(rb"[\r\n;:]", b"", v) or b"b"
+    return b'"' + v if v[:1] == b'"' and v[1:2] != b'"' else v
+
+
+def fit_inside(v):
+    """The inside of a quoted value: not empty, no CR, LF or quote."""
+    return re.sub(rb'[\r\n"]', b"", v) or b"i"
+
+
+NAMES = [b"A", b"AB", b"B", b"BEGIN", b"end", b"X-1.2", b"VEVENT", b",", b"/_"]
+KEYS = [b"K", b"BEGINNING", b"ENDING", b"END-X", b"a.b/c,d_e-f", b"9", b"-", b"SUMMARY", b"CATEGORIES", b"UID", b"END."]
+LOOSE = symbols('aB:;,"= \t.\x00\x0b\x0c\x7f') + UTF8 + [b"BEGIN:A", b"END:A", b'","', b";K=", b"\\"]
+SOUND = [b"20261027T120000Z", b"mailto:x@ex.org", b"one, two; three", "Zoë ☃".encode(), b'"a","b"', b"-//EN"]
+
+
+def any_text(rng, alphabet):
+    return damaged(rng, rng.choice(SOUND), alphabet) if rng.random() < .4 else word(rng, alphabet, 0, rng.choice((2, 6, 30, 120)))
+
+
+def any_key(rng, may_be_empty=False):
+    r = rng.random()
+    if r < .6:
+        return rng.choice(KEYS)
+    return b"" if r < .7 and may_be_empty else fit_key(word(rng, symbols("abcXYZ019.,/_-") + [b"BEGIN", b"END"], 1, 8), may_be_empty)
+
+
+def any_param(rng):
+    """A parameter that stays whole before `;` or `:`."""
+    front, k, how = b";" + word(rng, symbols(" \t"), 0, rng.choice((0, 0, 2))), any_key(rng, True), rng.randrange(6)
+    inside = [fit_inside(any_text(rng, LOOSE)) for _ in range(rng.randint(2, 4))]
+    if how == 0:
+        return k, None, front + k
+    if how == 1:
+        return k, None, front + k + b"="
+    if how == 2:
+        return k, inside[0], front + k + b'="' + inside[0] + b'"'
+    if how == 3:
+        v = b",".join(b'"' + i + b'"' for i in inside)
+    elif how == 4:
+        v = b'""' + re.sub(rb"[\r\n;:]", b"", any_text(rng, LOOSE))
+    else:
+        v = fit_bare(any_text(rng, LOOSE))
+    return k, v, front + k + b"=" + v
+
+
+def any_tree(rng, left, prop, name):
+    return (name(rng), [prop(rng) for _ in range(rng.choice((0, 1, 1, 2, 4)))],
+            [any_tree(rng, left - 1, prop, name) for _ in range(rng.choice((0, 0, 0, 1, 2)) if left > 1 else 0)])
+
+
+# ---------------------------------------------------------------- reading: feeds in the domain
+# The random ones by construction; the others are used where the test below finds them inside.
+
+def any_case(rng, word_):
+    return bytes(rng.choice((c, c ^ 32)) if 65 <= c <= 90 and rng.random() < .2 else c for c in word_)
+
+
+def any_prop(rng):
+    return any_key(rng), [any_param(rng) for _ in range(rng.choice((0, 0, 1, 1, 2, 3)))], fit_value(any_text(rng, LOOSE))
+
+
+def any_name(rng):
+    return rng.choice(NAMES) if rng.random() < .7 else word(rng, symbols("abcXYZ019.,/_-"), 1, 12)
+
+
+def content(k, params, value):
+    return k + b"".join(p[2] for p in params) + b":" + value
+
+
+def tree_lines(tree, rng):
+    """Properties and children mixed, each in its order."""
+    name, props, children = tree
+    todo = [[content(*p)] for p in props]
+    for c in children:
+        todo.insert(rng.randint(0, len(todo)), list(tree_lines(c, rng)))
+    yield any_case(rng, b"BEGIN:") + name
+    for some in todo:
+        yield from some
+    yield any_case(rng, b"END:") + name
+
+
+def feed(lines, br=b"\r\n", last=True):
+    return br.join(lines) + (br if last else b"")
+
+
+def folded(rng, text, br, often):
+    """Folds put in anywhere, line starts and ends too, but not inside a CRLF or a character."""
+    if not often:
+        return text
+    out = bytearray()
+    for c in re.findall(r"\r\n|[\s\S]", text.decode()):
+        if rng.random() < often:
+            out += br + rng.choice((b" ", b"\t"))
+        out += c.encode()
+    return bytes(out)
+
+
+def any_feed(rng):
+    br, lines = rng.choice((b"\n", b"\r\n")), []
+    for line in tree_lines(any_tree(rng, 5, any_prop, any_name), rng):
+        lines += [b""] * rng.choice((0, 0, 0, 0, 0, 1, 2)) + [line]
+    text = feed(lines + [b""] * rng.choice((0, 0, 1, 3)), br, rng.random() < .8)
+    return folded(rng, text, br, rng.choice((0, 0, .02, .2)))
+
+
+LINE = re.compile(rb"""
+    (?! (?i: BEGIN | END ) [:;] )                           # nothing reserved
+    [A-Za-z0-9.,/_-]+                                       # key
+    (?: ; [ \t]* [A-Za-z0-9.,/_-]*                          # parameters, each with
+        (?: = (?: "[^"]+" (?: ,"[^"]+" )*                   #   quoted values,
+                | (?: "" | [^";:] ) [^;:]* )?               #   a bare one that leaves no quote open,
+        )? )*                                               #   or none
+    : [^ \t\\] [^\\]*                                      # value""", re.VERBOSE)
+
+
+def in_read_domain(text):
+    """The domain of `read` as the README states it, of a feed in valid UTF-8."""
+    br = b"\r\n" if b"\r" in text else b"\n"
+    if re.search(rb"[\r\n]", text.replace(br, b"")):
+        return False
+    names, tops = [], 0
+    for line in filter(None, re.sub(br + rb"[ \t]", b"", text).split(br)):
+        if line[:6].upper() == b"BEGIN:":
+            tops += not names
+            names.append(line[6:])
+            if len(names) > 64 or not line[6:] or line[6:].strip(KEY_BYTES):
+                return False
+        elif not names:
+            return False
+        elif line[:4].upper() == b"END:":
+            if names.pop() != line[4:]:
+                return False
+        elif not LINE.fullmatch(line):
+            return False
+    return tops == 1 and not names
+
+
+FORMS = [b";", b";P", b";P=", b";=", b"; P=q", b";\tP", b';P="q"', b';P="q;r:s"', b';P="q","r"', b';P=""', b';P=""q"', b';P=q"r', b";=q"]
+KINDS = [b"", b"K:v", b"BEGIN:A\nEND:A", b"BEGINNING:BEGIN:A", b"ENDING;A=END:END:A", b'K;P=q:"', b"X:END:A"]
+
+
+def both_breaks(lines):
+    yield feed(lines, b"\n")
+    yield feed(lines, b"\r\n")
+
+
+def inside_a(*lines):
+    """Feeds of one component with these lines; an item may hold several, LF between them."""
+    return both_breaks(b"\n".join((b"BEGIN:A", *lines, b"END:A")).split(b"\n"))
+
+
+def cases_of_letters(word_):
+    return map("".join, itertools.product(*((c, c.lower()) for c in word_)))
+
+
+def nests(n):
+    """All forests of n components, as lists of lines; a name may start another."""
+    if n == 0:
+        yield []
+    for inside in range(n):
+        for a in nests(inside):
+            for b in nests(n - 1 - inside):
+                name = b"AB"[:1 + n % 2]
+                yield [b"BEGIN:" + name, *a, b"END:" + name, *b]
+
+
+def folds_everywhere(br, fold):
+    """A feed with the fold put in at each place in turn."""
+    lines = [b"BEGIN:AB", b'K;P="q:r";S:v w', b"", b"BEGIN:C", "L:é☃".encode(), b"END:C", b"END:AB", b""]
+    pieces = [p.encode() for p in re.findall(r"\r\n|[\s\S]", feed(lines, br).decode())]
+    for at in range(len(pieces) + 1):
+        yield b"".join(pieces[:at] + [fold] + pieces[at:])
+
+
+def read_lines():
+    """One or a few lines of every kind, exhaustively."""
+    for v in exhaustive(symbols('A:;," =\t.'), 4):
+        yield from inside_a(b"K:" + v)
+    for v in exhaustive(symbols('A:;," =\\.'), 4):
+        yield from inside_a(b"K;P=" + v + b":v")
+        yield from inside_a(b"K;P=" + v + b";Q:v")
+    for v in exhaustive(symbols('A:;,"= \\'), 3):
+        yield from inside_a(b'K;P="' + v + b'":v')
+        yield from inside_a(b'K;P="' + v + b'","' + v + b'";Q=r:v')
+    for k in exhaustive(symbols("A.,/_-9") + [b"BEGIN", b"END", b"end"], 3):
+        yield from inside_a(k + b":v", k + b";" + k + b"=x:v")
+    for p in exhaustive(FORMS, 3):
+        yield from inside_a(b"K" + p + b":v")
+    for lines in itertools.product(KINDS, repeat=4):
+        yield from inside_a(*lines)
+
+
+def read_nests():
+    for b, e in itertools.product(cases_of_letters("BEGIN"), cases_of_letters("END")):
+        yield feed([b.encode() + b":A", b"K:v", e.encode() + b":A"], b"\n")
+    for n in range(7):
+        for lines in nests(n):
+            yield from inside_a(*lines)
+    for d in range(1, 65):
+        yield feed([b"BEGIN:X"] * d + [b"END:X"] * d, b"\n", d % 2 == 0)
+
+
+def read_limits():
+    for n in (LIMIT - 1, LIMIT):
+        yield feed([b"BEGIN:X", b"K:" + b"v" * (n - 20), b"END:X"])
+        yield feed([b"BEGIN:X", b"K;P=" + b"v" * (n - 24) + b":v", b"END:X"])
+        body = b"".join(b"\r\n " + b"v" * 74 for _ in range((n - 22) // 77))
+        yield feed([b"BEGIN:X", b"K:v" + body + b"w" * (n - 21 - len(body)), b"END:X"])
+    yield feed([b"BEGIN:X"] + [b"K%d;P=%d;Q:v" % (i, i) for i in range(3000)] + [b"END:X"])
+    yield feed([b"BEGIN:X"] + [b"BEGIN:Y", b"END:Y"] * 4000 + [b"END:X"])
+
+
+def read_fixed():
+    folds = (folds_everywhere(br, (br + blank) * times)
+             for br in (b"\n", b"\r\n") for blank in (b" ", b"\t") for times in (1, 2))
+    return filter(in_read_domain, itertools.chain(read_lines(), read_nests(), *folds, read_limits()))
+
+
+def read_random(rng):
+    while True:
+        sound = any_feed(rng)
+        yield sound
+        hurt = damaged(rng, sound, LOOSE + symbols("AK9-\r\n"))
+        if in_read_domain(hurt):
+            yield hurt
+
+
+# ---------------------------------------------------------------- writing: a tree in the canonical form
+
+def dumped(tree):
+    name, props, children = tree
+    out = " C =" + name.hex()
+    for k, params, v in props:
+        out += f" P ={k.hex()} ={v.hex()}"
+        for pk, pv, _ in params:
+            out += f" p ={pk.hex()}" if pv is None else f" v ={pk.hex()} ={pv.hex()}"
+    return out + "".join(map(dumped, children)) + " E"
+
+
+def plain(v):
+    return bytes(c for c in v if c < 128 and c not in b"\r\n")
+
+
+def write_param(rng):
+    k = any_key(rng, True)
+    if rng.random() < .2:
+        return k, None, b";" + k
+    v = re.sub(rb'[:;,"]', b"", plain(any_text(rng, LOOSE)))[:20] or b"b"
+    return k, v, b";" + k + b"=" + v
+
+
+def write_prop(rng):
+    while True:
+        p = any_key(rng), [write_param(rng) for _ in range(rng.choice((0, 0, 1, 2)))], plain(any_text(rng, LOOSE))
+        room = 75 - len(content(*p[:2], b""))
+        if room >= 0:
+            return p[0], p[1], p[2][:room]
+
+
+def write_name(rng):
+    n = any_name(rng)
+    return n if n.lower() != b"calendar" else b"C"
+
+
+def write_fixed():
+    def one(k, params, v):
+        return dumped((b"A", [(k, params, v)], [])).encode()
+
+    for v in exhaustive(symbols(';:=",A \t\\.'), 4):
+        yield one(b"K", [], v)
+    for v in exhaustive(symbols("=A \t\\.'"), 4):
+        if v:
+            yield one(b"K", [(b"P", v, b"")], b"v")
+    for n in range(60, 74):                # lines of 62 to 75 bytes
+        for c in symbols("v :\t"):
+            yield one(b"K", [], c * n)
+            yield one(b"K", [(b"P", b"q", b""), (b"", None, b"")], c * (n - 5))
+            yield one(b"K", [(b"", b"q" * (n - 2), b"")], b"")
+            yield one(b"K" * n, [], b"")
+    for n in range(50, 70):                # BEGIN lines of 56 to 75 bytes
+        yield dumped((b"N" * n, [], [])).encode()
+    tree = (b"X", [(b"K", [], b"v")], [])
+    for _ in range(63):
+        tree = (b"X", [(b"K", [], b"v")], [tree])
+    yield dumped(tree).encode()
+
+
+def write_random(rng):
+    while True:
+        yield dumped(any_tree(rng, 5, write_prop, write_name)).encode()
+
+
+# ---------------------------------------------------------------- escapes: valid UTF-8; escapes the colon mode knows
+
+ESCAPES = [b"\\\\", b"\\;", b"\\,", b"\\:", b"\\n", b"\\N"]
+
+
+def escape_fixed():
+    yield from exhaustive(symbols('\\;,:nN\n\ra"'), 5)
+    for piece in (b"a", b",", b"\\", b"\n", b";a"):
+        yield piece * (LIMIT // 2 // len(piece))
+
+
+def escape_random(rng):
+    while True:
+        yield word(rng, symbols('\\;,:nN\n\ra"') + UTF8, 0, 40)
+
+
+def unescape_fixed():
+    yield from exhaustive(ESCAPES + symbols(';,:nN\n\ra"'), 4)
+    for piece in (b"a", b"\\n", b"\\\\"):
+        yield piece * (LIMIT // len(piece))
+
+
+def unescape_random(rng):
+    while True:
+        yield word(rng, ESCAPES + symbols(';,:nN\n\ra"') + UTF8, 0, 40)
+
+
+PARTS = {"unfold": (unfold_fixed, unfold_random), "key": (key_fixed, key_random), "keyseq": (key_fixed, key_random),
+         "param": (param_fixed, param_random), "params": (param_fixed, param_random), "fold": (fold_fixed, fold_random),
+         "quote": (quote_fixed, quote_random), "read": (read_fixed, read_random), "write": (write_fixed, write_random),
+         "escape": (escape_fixed, escape_random), "unescape": (unescape_fixed, unescape_random)}
+
+
+def fixed(part):
+    return PARTS[part][0]()
+
+
+def rand(part, seed):
+    """Random and damaged cases without end; the same for the same seed."""
+    return PARTS[part][1](random.Random(f"{part} {seed}"))
+
+
+def cases(part, seed, count):
+    """The fixed cases, then so many others."""
+    return itertools.chain(fixed(part), itertools.islice(rand(part, seed), count))
