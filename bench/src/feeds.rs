@@ -1,0 +1,124 @@
+//! The inputs: calendars made by a fixed generator, inside the domain where both sides owe the same answer.
+
+/// A small generator of numbers, the same at every run.
+struct Dice(u64);
+
+impl Dice {
+    fn below(&mut self, n: u64) -> u64 {
+        self.0 ^= self.0 << 13;
+        self.0 ^= self.0 >> 7;
+        self.0 ^= self.0 << 17;
+        (self.0 >> 11) % n
+    }
+
+    fn pick<'a>(&mut self, words: &[&'a str]) -> &'a str {
+        words[self.below(words.len() as u64) as usize]
+    }
+
+    fn sentence(&mut self, bytes: usize) -> String {
+        let mut text = String::from("Please");
+        while text.len() < bytes {
+            text.push(' ');
+            text.push_str(self.pick(&WORDS));
+        }
+        text
+    }
+}
+
+const WORDS: [&str; 16] = [
+    "bring",
+    "the",
+    "signed",
+    "form",
+    "to",
+    "room",
+    "before",
+    "noon;",
+    "agency",
+    "visit:",
+    "children,",
+    "and",
+    "parents",
+    "meet",
+    "us",
+    "there",
+];
+const NAMES: [&str; 6] = ["Berg, Ada", "Lind: Head", "Moss; Clerk", "Okoro, Ben", "Sato, Emi", "Diaz: Desk"];
+
+/// A feed of the kind, of as many bytes or a few less.
+pub fn feed(kind: &str, bytes: usize) -> String {
+    match kind {
+        "calendar" => calendar("\r\n", bytes),
+        "lf-only" => calendar("\n", bytes),
+        "nested" => nested(bytes),
+        "one-line" => one_line(bytes),
+        _ => panic!("no feed is called {kind}"),
+    }
+}
+
+/// Events of ten properties, one of them quoted and one folded.
+fn calendar(end: &str, bytes: usize) -> String {
+    let mut dice = Dice(0x9E37_79B9_7F4A_7C15);
+    wrapped("VCALENDAR", bytes, end, |n| event(&mut dice, n, end))
+}
+
+fn event(dice: &mut Dice, n: usize, end: &str) -> String {
+    let (day, hour) = (10 + dice.below(20), 10 + dice.below(10));
+    let lines = [
+        "BEGIN:VEVENT".into(),
+        format!("UID:{n:06}@agency.example"),
+        format!("DTSTAMP:202611{day}T{hour}1530Z"),
+        format!("DTSTART;TZID=Europe/Berlin:202612{day}T{hour}0000"),
+        format!("DTEND:202612{day}T{}0000Z", hour + 1),
+        format!("SUMMARY:{} of the district", dice.pick(&["Visit", "Hearing", "Training"])),
+        format!("LOCATION:Room {}", dice.below(90)),
+        format!("CLASS:{}", dice.pick(&["PUBLIC", "PRIVATE"])),
+        format!("SEQUENCE:{}", dice.below(7)),
+        format!("ORGANIZER;CN=\"{}\":mailto:desk{}@agency.example", dice.pick(&NAMES), dice.below(9)),
+        format!("DESCRIPTION:{}", {
+            let length = 64 + dice.below(48) as usize;
+            dice.sentence(length)
+        }),
+        "END:VEVENT".into(),
+    ];
+    lines.iter().map(|line| folded(line, end)).collect()
+}
+
+/// Many small components, three deep.
+fn nested(bytes: usize) -> String {
+    wrapped("VCALENDAR", bytes, "\r\n", |n| {
+        format!("BEGIN:VEVENT\r\nUID:{n}\r\nBEGIN:VALARM\r\nACTION:AUDIO\r\nEND:VALARM\r\nEND:VEVENT\r\n")
+    })
+}
+
+/// One property whose line takes up all there is.
+fn one_line(bytes: usize) -> String {
+    let value = "Please bring the signed form to the desk. ".repeat(bytes / 42 + 1);
+    let around = "BEGIN:VEVENT\r\nDESCRIPTION:\r\nEND:VEVENT\r\n".len();
+    format!("BEGIN:VEVENT\r\nDESCRIPTION:{}\r\nEND:VEVENT\r\n", &value[..bytes - around])
+}
+
+fn wrapped(name: &str, bytes: usize, end: &str, mut part: impl FnMut(usize) -> String) -> String {
+    let mut feed = format!("BEGIN:{name}{end}");
+    let last = format!("END:{name}{end}");
+    for n in 0.. {
+        let next = part(n);
+        if feed.len() + next.len() + last.len() > bytes {
+            break;
+        }
+        feed.push_str(&next);
+    }
+    feed + &last
+}
+
+/// The line with its break, folded as RFC 5545, section 3.1, asks.
+fn folded(line: &str, end: &str) -> String {
+    let (mut rest, mut width, mut text) = (line, 75, String::new());
+    while rest.len() > width {
+        text.push_str(&rest[..width]);
+        text.push_str(end);
+        text.push(' ');
+        (rest, width) = (&rest[width..], 74);
+    }
+    text + rest + end
+}

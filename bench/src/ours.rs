@@ -1,0 +1,80 @@
+//! The proved functions, as the archive exports them: a slice is two words, where it starts and how long it is.
+
+unsafe extern "C" {
+    fn hawniretem_unfold(feed: *const u8, feed_len: usize, text: *mut u8, text_len: usize) -> usize;
+    fn hawniretem_read(
+        feed: *const u8,
+        feed_len: usize,
+        text: *mut u8,
+        text_len: usize,
+        components: *mut u32,
+        components_len: usize,
+        properties: *mut u32,
+        properties_len: usize,
+        parameters: *mut u32,
+        parameters_len: usize,
+        numbers: *mut [usize; 6],
+    );
+    fn hawniretem_fold_line(line: *const u8, line_len: usize, out: *mut u8, out_len: usize, numbers: *mut [usize; 3]);
+    fn hawniretem_quote(value: *const u8, value_len: usize, out: *mut u8, out_len: usize, numbers: *mut [usize; 3]);
+}
+
+/// What a caller lends: nothing else is written.
+pub struct Lent {
+    pub text: Vec<u8>,
+    pub components: Vec<u32>,
+    pub properties: Vec<u32>,
+    pub parameters: Vec<u32>,
+    pub out: Vec<u8>,
+}
+
+impl Lent {
+    /// Room for any feed of as many bytes, and for what is written of its lines.
+    pub fn new(bytes: usize) -> Self {
+        let words = |row: usize| vec![0; bytes / 4 * row];
+        Lent {
+            text: vec![0; bytes],
+            components: words(4),
+            properties: words(5),
+            parameters: words(6),
+            out: vec![0; 2 * bytes + 1024],
+        }
+    }
+}
+
+pub fn unfold(feed: &[u8], text: &mut [u8]) -> usize {
+    unsafe { hawniretem_unfold(feed.as_ptr(), feed.len(), text.as_mut_ptr(), text.len()) }
+}
+
+pub fn read(feed: &[u8], lent: &mut Lent) -> [usize; 6] {
+    let Lent { text, components: c, properties: p, parameters: q, .. } = lent;
+    let mut numbers = [0; 6];
+    unsafe {
+        hawniretem_read(
+            feed.as_ptr(),
+            feed.len(),
+            text.as_mut_ptr(),
+            text.len(),
+            c.as_mut_ptr(),
+            c.len(),
+            p.as_mut_ptr(),
+            p.len(),
+            q.as_mut_ptr(),
+            q.len(),
+            &mut numbers,
+        )
+    }
+    numbers
+}
+
+pub fn fold_line(line: &[u8], out: &mut [u8]) -> [usize; 3] {
+    let mut numbers = [0; 3];
+    unsafe { hawniretem_fold_line(line.as_ptr(), line.len(), out.as_mut_ptr(), out.len(), &mut numbers) }
+    numbers
+}
+
+pub fn quote(value: &[u8], out: &mut [u8]) -> [usize; 3] {
+    let mut numbers = [0; 3];
+    unsafe { hawniretem_quote(value.as_ptr(), value.len(), out.as_mut_ptr(), out.len(), &mut numbers) }
+    numbers
+}

@@ -1,0 +1,169 @@
+//! The rows of the table. Each does the same work on both sides, between the clock's `start` and `stop`; what the Rust
+//! returns is freed behind `stop`, but for the lines and values, of which each is freed before the next, as its writer does.
+use crate::clock::Clock;
+use crate::ours::{self, Lent};
+use icalendar::parser::oracle::{folded, quoted};
+use icalendar::parser::{Component, read_component, unfold};
+use std::hint::black_box;
+
+pub struct Row {
+    pub name: &'static str,
+    /// The feeds, by kind and bytes.
+    pub feeds: &'static [(&'static str, usize)],
+    /// What the work is done on, of a feed.
+    pub parts: fn(String) -> Vec<String>,
+    pub ours: fn(&[String], &mut Lent, &mut Clock),
+    pub rust: fn(&[String], &mut Clock),
+    /// Whether both sides give the same, in whole.
+    pub same: fn(&[String], &mut Lent) -> bool,
+}
+
+/// The Rust reads an LF-only feed in time that grows with its square: 1 MiB would take it 20 seconds.
+const FEEDS: &[(&str, usize)] = &[
+    ("calendar", 1 << 20),
+    ("calendar", 1 << 19),
+    ("calendar", 1 << 18),
+    ("lf-only", 1 << 18),
+    ("nested", 1 << 20),
+    ("one-line", 1 << 20),
+];
+
+pub const ROWS: &[Row] = &[UNFOLD, READ, FOLD, QUOTE];
+
+const UNFOLD: Row = Row {
+    name: "unfold",
+    feeds: FEEDS,
+    parts: |feed| vec![feed],
+    ours: |parts, lent, clock| {
+        let feed = black_box(parts[0].as_bytes());
+        clock.start();
+        black_box(ours::unfold(feed, &mut lent.text));
+        clock.stop();
+    },
+    rust: |parts, clock| {
+        let feed = black_box(parts[0].as_str());
+        clock.start();
+        let text = black_box(unfold(feed));
+        clock.stop();
+        drop(text);
+    },
+    same: |parts, lent| {
+        let length = ours::unfold(parts[0].as_bytes(), &mut lent.text);
+        lent.text[..length] == *unfold(&parts[0]).as_bytes()
+    },
+};
+
+const READ: Row = Row {
+    name: "read",
+    feeds: FEEDS,
+    parts: |feed| vec![feed],
+    ours: |parts, lent, clock| {
+        let feed = black_box(parts[0].as_bytes());
+        clock.start();
+        black_box(ours::read(feed, lent));
+        clock.stop();
+    },
+    rust: |parts, clock| {
+        let feed = black_box(parts[0].as_str());
+        clock.start();
+        let text = unfold(feed);
+        let tree = black_box(read_component(&text));
+        clock.stop();
+        drop(tree);
+    },
+    same: |parts, lent| {
+        let numbers = ours::read(parts[0].as_bytes(), lent);
+        let text = unfold(&parts[0]);
+        let mut tables = Tables { lent, counts: [0; 3] };
+        numbers[0] == 0 && tables.hold(&read_component(&text).unwrap()) && numbers[3..] == tables.counts
+    },
+};
+
+const FOLD: Row = Row {
+    name: "fold",
+    feeds: FEEDS,
+    parts: |feed| unfold(&feed).lines().map(str::to_owned).collect(),
+    ours: |lines, lent, clock| over_all(ours::fold_line, lines, lent, clock),
+    rust: |lines, clock| each(folded, lines, clock),
+    same: |lines, lent| all_same(ours::fold_line, folded, lines, lent),
+};
+
+const QUOTE: Row = Row {
+    name: "quote",
+    feeds: FEEDS,
+    parts: |feed| {
+        unfold(&feed).lines().filter_map(|line| line.split_once(':')).map(|(_, value)| value.to_owned()).collect()
+    },
+    ours: |values, lent, clock| over_all(ours::quote, values, lent, clock),
+    rust: |values, clock| each(quoted, values, clock),
+    same: |values, lent| all_same(ours::quote, quoted, values, lent),
+};
+
+type Writes = fn(&[u8], &mut [u8]) -> [usize; 3];
+
+/// Writes one part behind the other.
+fn over_all(writes: Writes, parts: &[String], lent: &mut Lent, clock: &mut Clock) {
+    let mut at = 0;
+    clock.start();
+    for part in parts {
+        at += writes(part.as_bytes(), &mut lent.out[at..])[2];
+    }
+    clock.stop();
+    black_box(at);
+}
+
+fn each(makes: fn(&str) -> String, parts: &[String], clock: &mut Clock) {
+    clock.start();
+    for part in parts {
+        black_box(makes(part));
+    }
+    clock.stop();
+}
+
+fn all_same(writes: Writes, makes: fn(&str) -> String, parts: &[String], lent: &mut Lent) -> bool {
+    parts.iter().all(|part| {
+        let [answer, _, length] = writes(part.as_bytes(), &mut lent.out);
+        answer == 0 && lent.out[..length] == *makes(part).as_bytes()
+    })
+}
+
+/// The tables that were filled, and how many rows of each are looked at already.
+struct Tables<'a> {
+    lent: &'a Lent,
+    counts: [usize; 3],
+}
+
+impl Tables<'_> {
+    fn part(&self, start: u32, length: u32) -> &[u8] {
+        &self.lent.text[start as usize..][..length as usize]
+    }
+
+    /// Whether the next component row, the properties behind it and its children are this tree. Properties stand before children in
+    /// these feeds, so the rows stand in the tree's order.
+    fn hold(&mut self, tree: &Component) -> bool {
+        let row = self.counts[0];
+        let word = &self.lent.components[row * 4..][..4];
+        self.counts[0] += 1;
+        self.part(word[2], word[3]) == tree.name.as_str().as_bytes()
+            && tree.properties.iter().all(|property| {
+                let at = self.counts[1];
+                let word = &self.lent.properties[at * 5..][..5];
+                self.counts[1] += 1;
+                word[0] as usize == row
+                    && self.part(word[1], word[2]) == property.name.as_str().as_bytes()
+                    && self.part(word[3], word[4]) == property.val.as_str().as_bytes()
+                    && property.params.iter().all(|parameter| {
+                        let word = &self.lent.parameters[self.counts[2] * 6..][..6];
+                        self.counts[2] += 1;
+                        let value = (word[3] == 1).then(|| self.part(word[4], word[5]));
+                        word[0] as usize == at
+                            && self.part(word[1], word[2]) == parameter.key.as_str().as_bytes()
+                            && value == parameter.val.as_ref().map(|v| v.as_str().as_bytes())
+                    })
+            })
+            && tree
+                .components
+                .iter()
+                .all(|child| self.lent.components[self.counts[0] * 4] as usize == row && self.hold(child))
+    }
+}

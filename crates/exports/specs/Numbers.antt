@@ -1,0 +1,12 @@
+-- The numbers of an answer in the order of document 01, "What each number returns and leaves".
+-- Assumes nothing.
+use Prim.Native.Nat.{ℕ}
+use mathlib.Core.List.{List, [], _∷_}
+use Rattle.octets.specs.declared.Output.{Output}
+use Rattle.reading.specs.declared.Reading.{Reading}
+
+abbrev pub readingNumbers : Reading → List ℕ
+readingNumbers r = r .answer ∷ r .place ∷ r .length ∷ r .components ∷ r .properties ∷ r .parameters ∷ []
+
+abbrev pub outputNumbers : Output → List ℕ
+outputNumbers o = o .answer ∷ o .place ∷ o .length ∷ []
