@@ -125,10 +125,18 @@ fn undump<'a>(toks: &mut std::iter::Peekable<impl Iterator<Item = &'a str>>) -> 
         }
     }
 }
-fn written<'a>(c: &'a Component<'a>) -> String {
+
+// For callers of another crate, as bench/ is: what the originals keep to themselves.
+pub fn written<'a>(c: &'a Component<'a>) -> String {
     let mut out = String::new();
     c.fmt_write(&mut out).unwrap();
     out
+}
+pub fn folded(line: &str) -> String {
+    fold_line(line)
+}
+pub fn quoted(value: &str) -> String {
+    oracle_quote_special_chars(value)
 }
 
 fn one(part: &str, raw: &[u8]) -> String {
