@@ -247,11 +247,11 @@ def content(k, params, value):
 def tree_lines(tree, rng):
     """Properties and children mixed, each in its order."""
     name, props, children = tree
-    todo = [[content(*p)] for p in props]
+    waiting = [[content(*p)] for p in props]
     for c in children:
-        todo.insert(rng.randint(0, len(todo)), list(tree_lines(c, rng)))
+        waiting.insert(rng.randint(0, len(waiting)), list(tree_lines(c, rng)))
     yield any_case(rng, b"BEGIN:") + name
-    for some in todo:
+    for some in waiting:
         yield from some
     yield any_case(rng, b"END:") + name
 
