@@ -43,7 +43,7 @@ pub fn line_at(text: &[u8], at: usize) -> Extent
     requires { ⌜ at ≤ length (now text) ⌝ }
     ensures { λ r. ⌜ r ≡ extentOf at (drop at (now (text .entry))) ⌝ }
 {
-    let end = octets::find_byte(text, at, b'\n');
+    let end = octets::find_near(text, at, b'\n');
     if text.len() <= end {
         return Extent {
             len: end - at,
@@ -121,14 +121,16 @@ pub fn read_line(line: &[u8]) -> Line
     if line.len() == 0 {
         return Line::Empty;
     }
-    if octets::starts_word(b"BEGIN:", line) {
-        return begin_line(line);
-    }
-    if octets::starts_word(b"END:", line) {
-        return Line::End(Span {
-            start: 4,
-            len: line.len() - 4,
-        });
+    if octets::may_be_reserved(line) {
+        if octets::starts_word(b"BEGIN:", line) {
+            return begin_line(line);
+        }
+        if octets::starts_word(b"END:", line) {
+            return Line::End(Span {
+                start: 4,
+                len: line.len() - 4,
+            });
+        }
     }
     property_line(line)
 }

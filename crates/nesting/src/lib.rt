@@ -169,7 +169,11 @@ fn put_parameters(
     }
     let mut at = from;
     let mut row = first;
+    // A look at the byte spares the call behind the last parameter.
     while at < line.len() {
+        if line[at] != b';' {
+            return;
+        }
         let front = parameters::parameter(&line[at..]);
         let Front::Found(p) = front else {
             return;

@@ -61,6 +61,18 @@ module _ (class : ℕ → Bool) where
       go true e rest = omega (arith, rest (omega arith))
       go false e rest = omega arith
 
+  -- a run that ends inside a list knows nothing of what follows it
+  pub inside : (xs ys : List ℕ) → run class xs < length xs → run class (xs ++ ys) ≡ run class xs
+  unfolding run
+  inside [] ys h = absurd (not-suc-le-zero h)
+  inside (x ∷ xs) ys h = go (class x) h (inside xs ys)
+    where
+      go : (t : Bool) → pick t (suc (run class xs)) 0 < suc (length xs)
+          → (run class xs < length xs → run class (xs ++ ys) ≡ run class xs)
+          → pick t (suc (run class (xs ++ ys))) 0 ≡ pick t (suc (run class xs)) 0
+      go true h rest = ap suc (rest (le-of-suc-le-suc h))
+      go false h rest = refl
+
   -- of a list that is one whole run the first byte is of the class, and the others are one whole run
   pub whole-head : (x : ℕ) (xs : List ℕ) → run class (x ∷ xs) ≡ length (x ∷ xs) → class x ≡ true
   unfolding run

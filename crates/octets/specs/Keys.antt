@@ -23,5 +23,9 @@ standsAlone word line = startsWord word line && stopsAt (length word) line
 abbrev pub reserved : List ℕ → Bool
 reserved line = standsAlone beginWord line || standsAlone endWord line
 
+-- the byte is the first one of BEGIN or END, in any case
+abbrev pub opensReserved : ℕ → Bool
+opensReserved x = ((eqb x 66 || eqb x 98) || eqb x 69) || eqb x 101
+
 abbrev pub keyOf : List ℕ → Key
 keyOf line = pick (reserved line) Reserved (Run (run keyByte line))

@@ -2,6 +2,7 @@ pub mod Choice
 pub mod Laid
 pub mod Bytes
 pub mod Runs
+pub mod Numbers
 pub mod Words
 pub mod Keys
 pub mod Views

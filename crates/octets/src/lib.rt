@@ -2,15 +2,16 @@
 ghost use mathlib.Core.Path.{_≡_};
 ghost use mathlib.Core.Bool.{Bool, true, false};
 ghost use Prim.Native.Nat.{_+_, _≤_, min};
-ghost use lib.ListN.{length, drop};
+ghost use lib.ListN.{length, getD, drop};
 ghost use Rattle.octets.specs.Bytes.{keyByte, lowered, other};
 ghost use Rattle.octets.specs.Laid.{laid, laidFrom, counted};
 ghost use Rattle.octets.specs.Answers.{roomAnswer};
 ghost use Rattle.octets.specs.Runs.{run};
 ghost use Rattle.octets.specs.Words.{sameBytes, startsWord};
-ghost use Rattle.octets.specs.Keys.{keyOf, standsAlone, stopsAt};
+ghost use Rattle.octets.specs.Keys.{keyOf, opensReserved, standsAlone, stopsAt};
 ghost use Rattle.octets.specs.Views.{viewed};
 
+mod eights;
 mod key_bytes;
 
 // The most bytes of a feed, of a line to fold, of a value to quote and of the writer's output.
@@ -81,6 +82,9 @@ pub fn key_run(line: &[u8]) -> usize
     i
 }
 
+// How many bytes count as near: most lines are shorter.
+const NEAR: usize = 64;
+
 // Whether one of the 32 bytes from `at` on is b. The loop has no branch, so that it becomes vector code.
 fn any_of_32(a: &[u8], at: usize, b: u8) -> bool
     requires { ⌜ at + 32 ≤ length (now a) ⌝ }
@@ -116,6 +120,26 @@ pub fn find_byte(a: &[u8], from: usize, b: u8) -> usize
         i += 1;
     }
     i
+}
+
+// The same place, for a byte that is expected near: eight bytes at a time at first, and in blocks where it is far after all.
+pub fn find_near(a: &[u8], from: usize, b: u8) -> usize
+    ensures { λ r. ⌜ r ≡ from + run (other b) (drop from (now (a .entry))) ⌝ }
+{
+    if a.len() <= from {
+        return from;
+    }
+    let mut i = from;
+    let mut left = least(a.len() - from, NEAR);
+    while 8 <= left {
+        let n = eights::first_of_8(a, i, b);
+        if n < 8 {
+            return i + n;
+        }
+        i += 8;
+        left -= 8;
+    }
+    find_byte(a, i, b)
 }
 
 pub fn least(a: usize, b: usize) -> usize
@@ -229,12 +253,25 @@ fn stands_alone(word: &[u8], line: &[u8]) -> bool
     starts_word(word, line) & stops_at(word.len(), line)
 }
 
+// Whether the first byte is one that BEGIN or END may start with: where it is not, neither word need be looked for.
+pub fn may_be_reserved(line: &[u8]) -> bool
+    ensures { λ r. ⌜ r ≡ opensReserved (getD (now (line .entry)) 0 0) ⌝ }
+{
+    if line.len() == 0 {
+        return false;
+    }
+    let b = line[0];
+    (b == b'B') | (b == b'b') | (b == b'E') | (b == b'e')
+}
+
 // The key at the front of a line. BEGINNING is a key; BEGIN is none where the word ends there.
 pub fn property_key(line: &[u8]) -> Key
     ensures { λ r. ⌜ r ≡ keyOf (now (line .entry)) ⌝ }
 {
-    if stands_alone(b"BEGIN", line) | stands_alone(b"END", line) {
-        return Key::Reserved;
+    if may_be_reserved(line) {
+        if stands_alone(b"BEGIN", line) | stands_alone(b"END", line) {
+            return Key::Reserved;
+        }
     }
     Key::Run(key_run(line))
 }

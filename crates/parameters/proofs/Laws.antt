@@ -1,11 +1,13 @@
 -- Laws of one parameter: what stands at the front, and that the key and the value lie inside what it uses.
 -- Assumes nothing.
 use Prim.Native.Nat.{ℕ, _+_, _≤_, _<_}
-use mathlib.Core.Path.{_≡_, refl}
+use mathlib.Core.Path.{_≡_, refl, sym}
 use mathlib.Core.Bool.{Bool, true, false}
 use mathlib.Core.List.{List}
 use native.Mathlib.Omega.{arith}
+use native.Mathlib.Nat.{add-zero}
 use lib.ListN.{length, getD, drop, length-drop}
+use lib.Seq.{getD-drop}
 use lib.Dec.{eqb}
 use borrow.Author.Tests.{eqb-true, eq-eqb, ne-eqb}
 use Rattle.octets.specs.Choice.{pick}
@@ -29,6 +31,10 @@ use Rattle.parameters.proofs.Values.{inside-of, form-le}
 pub front-none : (rest : List ℕ) → (getD rest 0 0 ≡ semicolon → ⊥) → NoParameter ≡ frontOf rest
 unfolding frontOf
 front-none rest h = rw (ne-eqb _ _ h)
+
+-- where another byte stands than `;`
+pub front-other : (line : List ℕ) (at : ℕ) → (getD line at 0 ≡ semicolon → ⊥) → frontOf (drop at line) ≡ NoParameter
+front-other line at h = sym (front-none (drop at line) (λ e. h (rw (getD-drop, add-zero) at e)))
 
 module _ (rest : List ℕ) (opens : getD rest 0 0 ≡ semicolon) (start : ℕ) (starts : start ≡ keyStart rest) where
   pub key-starts : start ≤ length rest

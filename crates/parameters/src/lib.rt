@@ -100,7 +100,7 @@ fn quoted_len(a: &[u8]) -> usize
     if byte_at(a, 0) != b'"' {
         return 0;
     }
-    let end = octets::find_byte(a, 1, b'"');
+    let end = octets::find_near(a, 1, b'"');
     if end == 1 {
         return 0;
     }
@@ -232,7 +232,14 @@ pub fn parameters(rest: &[u8]) -> Passed
 {
     let mut count: usize = 0;
     let mut at: usize = 0;
+    // Most lines have none: a look at the byte spares the call.
     while at < rest.len() {
+        if rest[at] != b';' {
+            return Passed {
+                count: count,
+                used: at,
+            };
+        }
         match parameter(&rest[at..]) {
             Front::NoParameter => {
                 return Passed {

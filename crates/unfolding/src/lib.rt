@@ -50,7 +50,7 @@ fn next_fold(feed: &[u8], from: usize) -> usize
     ensures { λ r. ⌜ r ≡ from + toFold (drop from (now (feed .entry))) ⌝ }
 {
     let last = feed.len() - 1;
-    let mut i = octets::find_byte(feed, from, b'\n');
+    let mut i = octets::find_near(feed, from, b'\n');
     while i < last {
         if last - i < 32 {
             break;

@@ -9,22 +9,22 @@ use borrow.Author.Needs.{needs}
 use Rattle.lines.proofs.line_at.Statement.{statement}
 use Rattle.lines.proofs.line_at.Tie as tie
 
-find-byte-requires : tie.Need-find-byte-requires
-find-byte-requires c κs = search needs
+find-near-requires : tie.Need-find-near-requires
+find-near-requires c κs = search needs
 
 sub-t7 : tie.Need-sub-t7
 sub-t7 c = search needs
 
 returns : tie.Need-returns
 returns c = let s = c .before .before .before .args in
-    no-break (s .at) (drop (s .at) (s .text .now)) (c .before .find-byte .result) (c .before .find-byte .ensures) (rw length-drop (omega arith))
+    no-break (s .at) (drop (s .at) (s .text .now)) (c .before .find-near .result) (c .before .find-near .ensures) (rw length-drop (omega arith))
 
 add-t8 : tie.Need-add-t8
 add-t8 c = search needs
 
 returns-2 : tie.Need-returns-2
 returns-2 c = let s = c .before .before .before .before .args in
-    empty-line (s .at) (drop (s .at) (s .text .now)) (c .before .before .find-byte .result) (c .before .before .find-byte .ensures) (rw length-drop (omega arith)) (c .if2 .taken)
+    empty-line (s .at) (drop (s .at) (s .text .now)) (c .before .before .find-near .result) (c .before .before .find-near .ensures) (rw length-drop (omega arith)) (c .if2 .taken)
 
 sub-last : tie.Need-sub-last
 sub-last c = search needs
@@ -40,7 +40,7 @@ add-t12 c = search needs
 
 returns-3 : tie.Need-returns-3
 returns-3 c = let s = c .before .before .before .before .before .before .args in
-    let e = c .before .before .before .before .find-byte in
+    let e = c .before .before .before .before .find-near in
     cr-break (s .at) (drop (s .at) (s .text .now)) (e .result) (e .ensures) (rw length-drop (omega arith)) (before-break (s .text .now) (s .at) (toBreak (drop (s .at) (s .text .now))) (e .result) (e .ensures) (omega arith) ∙ c .if3 .taken)
 
 sub-t5 : tie.Need-sub-t5
@@ -51,14 +51,14 @@ add-t13 c = search needs
 
 returns-4 : tie.Need-returns-4
 returns-4 c = let s = c .before .before .before .before .before .before .args in
-    let e = c .before .before .before .before .find-byte in
+    let e = c .before .before .before .before .find-near in
     lf-break (s .at) (drop (s .at) (s .text .now)) (e .result) (e .ensures) (rw length-drop (omega arith)) (λ q. c .if3 .left (sym (before-break (s .text .now) (s .at) (toBreak (drop (s .at) (s .text .now))) (e .result) (e .ensures) (omega arith)) ∙ q))
 
 pub line-at-spec : {M : Type 1} → statement M
 line-at-spec =
     tie.close
     (tie.spec
-    find-byte-requires
+    find-near-requires
     sub-t7
     returns
     add-t8

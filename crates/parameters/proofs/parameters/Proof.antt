@@ -8,7 +8,7 @@ use borrow.Author.Needs.{needs}
 use Rattle.octets.proofs.Lists.{lent}
 use Rattle.parameters.specs.declared.Front.the-variants.{Found}
 use Rattle.parameters.specs.Parameter.{frontOf}
-use Rattle.parameters.proofs.Laws.{found-inside}
+use Rattle.parameters.proofs.Laws.{front-other, found-inside}
 use Rattle.parameters.proofs.Lists.{Passing, passing-start, passing-more, passing-none, passing-end}
 use Rattle.parameters.proofs.parameters.Statement.{statement}
 use Rattle.parameters.proofs.parameters.Tie as tie
@@ -20,17 +20,25 @@ abbrev μ-loop : tie.MeasureT-loop
 μ-loop rest count₀ at₀ count at = length rest - at
 
 found : (c : tie.After-struct-known Inv-loop μ-loop) →
-    let l = c .before .before .before .before .before .before .before in
+    let l = c .before .before .before .before .before .before .before .before .before in
     frontOf (drop (l .loop .at) (l .before .before .args .rest .now)) ≡ Found (c .before .before .p .given .0 .0)
 found c = sym (rw lent at (c .before .before .before .before .parameter .ensures)) ∙ c .before .before .p .given .1
 
 next : (c : tie.After-struct-known Inv-loop μ-loop) →
-    let l = c .before .before .before .before .before .before .before in
+    let l = c .before .before .before .before .before .before .before .before .before in
     Passing (l .before .before .args .rest .now) (l .loop .count + 1) (l .loop .at + c .before .before .p .given .0 .0 .used)
-next c = passing-more (c .before .before .before .before .before .before .before .loop .inv) _ (found c)
+next c = passing-more (c .before .before .before .before .before .before .before .before .before .loop .inv) _ (found c)
 
 loop-holds : tie.Need-loop-holds Inv-loop μ-loop
 loop-holds c = passing-start _
+
+shared-slice-read-if1 : tie.Need-shared-slice-read-if1 Inv-loop μ-loop
+shared-slice-read-if1 c = omega arith
+
+returns : tie.Need-returns Inv-loop μ-loop
+returns c =
+    let l = c .before .before .before in
+    passing-none (l .loop .inv) (front-other (l .before .before .args .rest .now) (l .loop .at) (c .if1 .taken))
 
 sub-parameter : tie.Need-sub-parameter Inv-loop μ-loop
 sub-parameter c = omega arith
@@ -47,8 +55,8 @@ parameter-requires c κs = search needs
 enum-told : tie.Need-enum-told Inv-loop μ-loop
 enum-told c = search needs
 
-returns : tie.Need-returns Inv-loop μ-loop
-returns c = passing-none (c .before .before .before .before .before .loop .inv) (sym (rw lent at (c .before .before .parameter .ensures)) ∙ c .enum-told .given .1)
+returns-2 : tie.Need-returns-2 Inv-loop μ-loop
+returns-2 c = passing-none (c .before .before .before .before .before .before .before .loop .inv) (sym (rw lent at (c .before .before .parameter .ensures)) ∙ c .enum-told .given .1)
 
 enum-known-p : tie.Need-enum-known-p Inv-loop μ-loop
 enum-known-p c = search needs
@@ -61,14 +69,14 @@ add-count c = omega (arith, next c .inside, next c .few)
 
 loop-less : tie.Need-loop-less Inv-loop μ-loop
 loop-less c =
-    let l = c .before .before .before .before .before .before .before in
+    let l = c .before .before .before .before .before .before .before .before .before in
     omega (arith, found-inside (drop (l .loop .at) (l .before .before .args .rest .now)) (found c) .some)
 
 loop-again : tie.Need-loop-again Inv-loop μ-loop
 loop-again c = next c
 
-returns-2 : tie.Need-returns-2 Inv-loop μ-loop
-returns-2 c = passing-end (c .before .loop .inv) (c .loop-test .left)
+returns-3 : tie.Need-returns-3 Inv-loop μ-loop
+returns-3 c = passing-end (c .before .loop .inv) (c .loop-test .left)
 
 pub parameters-spec : {M : Type 1} → statement M
 parameters-spec =
@@ -77,15 +85,17 @@ parameters-spec =
     Inv-loop
     μ-loop
     loop-holds
+    shared-slice-read-if1
+    returns
     sub-parameter
     part-parameter-start
     part-parameter-end
     parameter-requires
     enum-told
-    returns
+    returns-2
     enum-known-p
     add-at
     add-count
     loop-less
     loop-again
-    returns-2)
+    returns-3)

@@ -13,8 +13,8 @@ byte-at-requires c κs = search needs
 returns : tie.Need-returns
 returns c = sym (quoted-none _ (λ q. omega (arith, q .opens)))
 
-find-byte-requires : tie.Need-find-byte-requires
-find-byte-requires c κs = search needs
+find-near-requires : tie.Need-find-near-requires
+find-near-requires c κs = search needs
 
 returns-2 : tie.Need-returns-2
 returns-2 c = sym (quoted-none _ (λ q. omega (arith, q .inside)))
@@ -28,9 +28,9 @@ add-result c = search needs
 returns-4 : tie.Need-returns-4
 returns-4 c =
     let found = c .before .before in
-    quoted-closed _ _ (sym (found .before .before .byte-at .ensures) ∙ found .before .if1 .left) (found .find-byte .ensures) (c .before .if2 .left) (c .if3 .left)
+    quoted-closed _ _ (sym (found .before .before .byte-at .ensures) ∙ found .before .if1 .left) (found .find-near .ensures) (c .before .if2 .left) (c .if3 .left)
 
 pub quoted-len-spec : {M : Type 1} → statement M
 quoted-len-spec =
     tie.close
-    (tie.spec byte-at-requires returns find-byte-requires returns-2 returns-3 add-result returns-4)
+    (tie.spec byte-at-requires returns find-near-requires returns-2 returns-3 add-result returns-4)

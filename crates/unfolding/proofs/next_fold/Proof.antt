@@ -27,14 +27,14 @@ abbrev μ-loop2 : tie.MeasureT-loop2
 sub-last : tie.Need-sub-last Inv-loop μ-loop Inv-loop2 μ-loop2
 sub-last c = omega arith
 
-find-byte-requires : tie.Need-find-byte-requires Inv-loop μ-loop Inv-loop2 μ-loop2
-find-byte-requires c κs = search needs
+find-near-requires : tie.Need-find-near-requires Inv-loop μ-loop Inv-loop2 μ-loop2
+find-near-requires c κs = search needs
 
 loop-holds : tie.Need-loop-holds Inv-loop μ-loop Inv-loop2 μ-loop2
 loop-holds c =
     let s = c .before .before .args in
     let rest = drop (s .from) (s .feed .now) in
-    let e = c .find-byte .ensures in (
+    let e = c .find-near .ensures in (
       omega (arith, runs.within (other lf) rest, length-drop (s .from) (s .feed .now)),
       omega (arith, rw (drop-drop, ← e) at (past-others rest)),
     )
@@ -103,7 +103,7 @@ next-fold-spec =
     Inv-loop2
     μ-loop2
     sub-last
-    find-byte-requires
+    find-near-requires
     loop-holds
     sub-if1
     any-fold-of-32-requires

@@ -1,0 +1,77 @@
+-- `octets::find_near`: the bytes passed and the run from here on make the whole run.
+use Prim.Native.Nat.{ℕ, _≤_, _<_, _+_, _-_}
+use mathlib.Core.Path.{_≡_, refl, sym, ap, _∙_}
+use lib.ListN.{length, drop}
+use native.Mathlib.Omega.{arith}
+use Rattle.octets.specs.Bytes.{other}
+use Rattle.octets.specs.Runs.{run}
+use Rattle.octets.specs.Numbers.{eight}
+use Rattle.octets.proofs.Runs.{ended}
+use Rattle.octets.proofs.Numbers.{run-inside, run-through, at-most-8}
+use Rattle.octets.proofs.find_near.Statement.{statement}
+use Rattle.octets.proofs.find_near.Tie as tie
+
+abbrev Inv-loop : tie.InvT-loop
+Inv-loop a from b i₀ left₀ i left = (i + left ≤ length a) × (i + run (other b) (drop i a) ≡ from + run (other b) (drop from a))
+
+abbrev μ-loop : tie.MeasureT-loop
+μ-loop a from b i₀ left₀ i left = left
+
+returns : tie.Need-returns Inv-loop μ-loop
+returns c = let s = c .before .before .args in omega (arith, ended (other (s .b)) (s .a .now) (s .from) (omega arith))
+
+sub-least : tie.Need-sub-least Inv-loop μ-loop
+sub-least c = omega arith
+
+least-requires : tie.Need-least-requires Inv-loop μ-loop
+least-requires c κs = tt
+
+loop-holds : tie.Need-loop-holds Inv-loop μ-loop
+loop-holds c = (omega (arith, c .least .ensures), refl)
+
+first-of-8-requires : tie.Need-first-of-8-requires Inv-loop μ-loop
+first-of-8-requires c κs = omega arith
+
+add-result : tie.Need-add-result Inv-loop μ-loop
+add-result c = omega arith
+
+returns-2 : tie.Need-returns-2 Inv-loop μ-loop
+returns-2 c = let s = c .before .before .before .before .before .before .before .args in let i = c .before .before .before .loop .i in
+    omega (arith, c .before .first-of-8 .ensures, run-inside (other (s .b)) (s .a .now) i (omega arith) (omega (arith, c .before .first-of-8 .ensures)))
+
+add-i : tie.Need-add-i Inv-loop μ-loop
+add-i c = omega arith
+
+loop-less : tie.Need-loop-less Inv-loop μ-loop
+loop-less c = omega arith
+
+loop-again : tie.Need-loop-again Inv-loop μ-loop
+loop-again c = let s = c .before .before .before .before .before .before .before .args in let i = c .before .before .before .loop .i in
+    let whole : run (other (s .b)) (eight (s .a .now) i) ≡ 8 =
+    omega (arith, c .before .first-of-8 .ensures, at-most-8 (other (s .b)) (s .a .now) i (omega arith)) in
+    (omega arith, omega (arith, run-through (other (s .b)) (s .a .now) i (omega arith) whole))
+
+find-byte-requires : tie.Need-find-byte-requires Inv-loop μ-loop
+find-byte-requires c κs = tt
+
+returns-3 : tie.Need-returns-3 Inv-loop μ-loop
+returns-3 c = omega (arith, c .find-byte .ensures)
+
+pub find-near-spec : {M : Type 1} → statement M
+find-near-spec =
+    tie.close
+    (tie.spec
+    Inv-loop
+    μ-loop
+    returns
+    sub-least
+    least-requires
+    loop-holds
+    first-of-8-requires
+    add-result
+    returns-2
+    add-i
+    loop-less
+    loop-again
+    find-byte-requires
+    returns-3)
