@@ -5,7 +5,6 @@ pub mod Writing
 pub mod Runs
 pub mod Numbers
 pub mod Words
-pub mod Table
-pub mod KeyTable
+pub mod Every
 pub mod Keys
 pub mod Answers

@@ -1,59 +1,95 @@
--- Laws of bytes as one number: questions asked of all of them at once. Assumes nothing.
-use mathlib.Core.Path.{_≡_, refl, sym, ap, subst, _∙_}
+-- Laws of bytes as one number: what is asked of each byte is asked of all of them at once. Assumes nothing.
+use mathlib.Core.Path.{_≡_, refl, sym, ap, _∙_}
 use mathlib.Core.Bool.{Bool, true, false, not}
 use mathlib.Core.List.{List, [], _∷_, _++_}
-use Prim.Native.Nat.{ℕ, zero, suc, _+_, _-_, _*_, _/_, _%_, _^_, _≤_, _<_}
-use native.Mathlib.Nat.{add-zero, zero-add, add-suc, suc-add, mul-one, not-suc-le-zero}
-use native.Mathlib.Numerals.{add-one}
+use Prim.Native.Nat.{ℕ, zero, suc, _+_, _*_, _/_, _%_, _^_, _≤_, _<_}
+use native.Mathlib.Nat.{zero-add, suc-add, mul-one}
 use native.Mathlib.Omega.{arith}
-use lib.ListN.{length, getD, take, drop, replicate, getD-replicate}
+use lib.ListN.{length, getD, drop}
 use lib.Seq.{drop-cons}
-use lib.Dec.{eqb, lit<}
-use lib.Bits.{bitAnd, bitOr, bitXor, and-le-r, and-block, or-block, or-lt, xor-block, xor-lt, xor-self, xor-add-and, and-le-l, shifted-half, shifted-even, block-odd}
-use lib.Count.{trailingZeros, under}
-use borrow.Author.Tests.{eqb-true, eqb-false, eq-eqb, ne-eqb}
+use lib.Dec.{eqb, ltb, lit<, lit≤}
+use lib.Bits.{bitAnd, bitOr, bitXor, and-le-l, and-le-r, and-zero-l, or-zero-l, xor-zero-l, and-block, or-block, or-lt, xor-block, xor-lt, xor-self, xor-add-and, shifted-half, shifted-even}
+use lib.Count.{trailingZeros, under, trailing-of-zero}
+use borrow.Author.Tests.{eqb-true, eqb-false, eq-eqb, ne-eqb, ltb-true}
 use Rattle.octets.specs.Choice.{pick}
-use Rattle.octets.specs.Bytes.{other}
+use Rattle.octets.specs.Bytes.{capital, other}
 use Rattle.octets.specs.Runs.{run}
-use Rattle.octets.specs.Numbers.{number, eight}
+use Rattle.octets.specs.Numbers.{each, number, marks, eight}
 use Rattle.octets.proofs.Runs.{within, through, inside}
-use Rattle.octets.proofs.Table as table
+use Rattle.octets.proofs.Every.{every}
 
--- every byte is below 256
+abbrev Small : (ℕ → ℕ) → Type 0
+Small f = (x : ℕ) → x < 256 → f x < 256
+
 unfoldable pub Bytes : List ℕ → Type 0
 Bytes [] = Unit {0}
 Bytes (x ∷ xs) = (x < 256) × Bytes xs
 
--- the first byte is the lower eight bits
-pub lowest : (x : ℕ) (xs : List ℕ) → number (x ∷ xs) ≡ number xs * 2 ^ 8 + x
-lowest x xs = omega arith
+-- ---- bit by bit is byte by byte
 
--- ---- the byte that is looked for becomes 0
+module _ (op : ℕ → ℕ → ℕ) (nothing : op 0 0 ≡ 0)
+    (block : (k a b r s : ℕ) → r < 2 ^ k → s < 2 ^ k → op (a * 2 ^ k + r) (b * 2 ^ k + s) ≡ op a b * 2 ^ k + op r s) where
+  bytewise : (f g : ℕ → ℕ) → Small f → Small g → (xs : List ℕ) → Bytes xs → op (each f xs) (each g xs) ≡ each (λ (x : ℕ). op (f x) (g x)) xs
+  unfolding Bytes
+  bytewise f g p q [] k = nothing
+  bytewise f g p q (x ∷ xs) k =
+      let s : f x + 256 * each f xs ≡ each f xs * 2 ^ 8 + f x = omega arith in
+      let t : g x + 256 * each g xs ≡ each g xs * 2 ^ 8 + g x = omega arith in
+      let b = block 8 (each f xs) (each g xs) (f x) (g x) (p x (k .0)) (q x (k .0)) in
+      ap (λ (n : ℕ). op n (g x + 256 * each g xs)) s
+      ∙ ap (λ (n : ℕ). op (each f xs * 2 ^ 8 + f x) n) t
+      ∙ b
+      ∙ omega (arith, bytewise f g p q xs (k .1))
 
-abbrev differ : ℕ → List ℕ → List ℕ
-differ b [] = []
-differ b (x ∷ xs) = bitXor x b ∷ differ b xs
+and-each : (f g : ℕ → ℕ) → Small f → Small g → (xs : List ℕ) → Bytes xs → bitAnd (each f xs) (each g xs) ≡ each (λ (x : ℕ). bitAnd (f x) (g x)) xs
+and-each = bytewise bitAnd (and-zero-l 0) and-block
 
-pub xor-number : (b : ℕ) → b < 256 → (xs : List ℕ) → Bytes xs → bitXor (number xs) (number (replicate (length xs) b)) ≡ number (differ b xs)
+or-each : (f g : ℕ → ℕ) → Small f → Small g → (xs : List ℕ) → Bytes xs → bitOr (each f xs) (each g xs) ≡ each (λ (x : ℕ). bitOr (f x) (g x)) xs
+or-each = bytewise bitOr (or-zero-l 0) or-block
+
+xor-each : (f g : ℕ → ℕ) → Small f → Small g → (xs : List ℕ) → Bytes xs → bitXor (each f xs) (each g xs) ≡ each (λ (x : ℕ). bitXor (f x) (g x)) xs
+xor-each = bytewise bitXor (xor-zero-l 0) xor-block
+
+sums : (f g : ℕ → ℕ) (xs : List ℕ) → each f xs + each g xs ≡ each (λ (x : ℕ). f x + g x) xs
+sums f g [] = refl
+sums f g (x ∷ xs) = omega (arith, sums f g xs)
+
+alike : (f g : ℕ → ℕ) → ((x : ℕ) → x < 256 → f x ≡ g x) → (xs : List ℕ) → Bytes xs → each f xs ≡ each g xs
 unfolding Bytes
-xor-number b h [] k = refl
-xor-number b h (x ∷ xs) k =
-    ap (λ (n : ℕ). bitXor n (number (b ∷ replicate (length xs) b))) (lowest x xs)
-    ∙ ap (λ (n : ℕ). bitXor (number xs * 2 ^ 8 + x) n) (lowest b (replicate (length xs) b))
-    ∙ xor-block 8 (number xs) (number (replicate (length xs) b)) x b (k .0) h
-    ∙ ap (λ (n : ℕ). n * 2 ^ 8 + bitXor x b) (xor-number b h xs (k .1))
-    ∙ sym (lowest (bitXor x b) (differ b xs))
+alike f g e [] k = refl
+alike f g e (x ∷ xs) k = omega (arith, e x (k .0), alike f g e xs (k .1))
 
-differ-bytes : (b : ℕ) → b < 256 → (xs : List ℕ) → Bytes xs → Bytes (differ b xs)
-unfolding Bytes
-differ-bytes b h [] k = tt
-differ-bytes b h (x ∷ xs) k = (xor-lt 8 x b (k .0) h, differ-bytes b h xs (k .1))
+-- ---- which bytes are 0
 
-length-differ : (b : ℕ) (xs : List ℕ) → length (differ b xs) ≡ length xs
-length-differ b [] = refl
-length-differ b (x ∷ xs) = ap suc (length-differ b xs)
+abbrev pub zeros : ℕ → ℕ → ℕ → ℕ
+zeros low high n = bitXor (bitAnd (bitOr (bitAnd n low + low) n) high) high
 
--- it is 0 there alone
+abbrev lower : ℕ → ℕ → ℕ
+lower by x = bitAnd x 127 + by
+
+lower-small : (by : ℕ) → by ≤ 128 → Small (lower by)
+lower-small by h x k = omega (arith, and-le-r x 127)
+
+zeros-each : (f : ℕ → ℕ) → Small f → (xs : List ℕ) → Bytes xs
+    → zeros (each (λ (x : ℕ). 127) xs) (each (λ (x : ℕ). 128) xs) (each f xs) ≡ each (λ (x : ℕ). zeros 127 128 (f x)) xs
+zeros-each f p xs k =
+    let low : ℕ → ℕ = λ (x : ℕ). 127 in
+    let high : ℕ → ℕ = λ (x : ℕ). 128 in
+    let s : Small (λ (x : ℕ). lower 127 (f x)) = λ (x : ℕ) h. lower-small 127 (lit≤ tt) (f x) (p x h) in
+    let o : Small (λ (x : ℕ). bitOr (lower 127 (f x)) (f x)) = λ (x : ℕ) h. or-lt 8 (lower 127 (f x)) (f x) (s x h) (p x h) in
+    let a : Small (λ (x : ℕ). bitAnd (bitOr (lower 127 (f x)) (f x)) 128) = λ (x : ℕ) h. omega (arith, and-le-r (bitOr (lower 127 (f x)) (f x)) 128) in
+    rw (
+      and-each f low p (λ (x : ℕ) h. lit< tt) xs k,
+      sums (λ (x : ℕ). bitAnd (f x) 127) low xs,
+      or-each (λ (x : ℕ). lower 127 (f x)) f s p xs k,
+      and-each (λ (x : ℕ). bitOr (lower 127 (f x)) (f x)) high o (λ (x : ℕ) h. lit< tt) xs k,
+      xor-each (λ (x : ℕ). bitAnd (bitOr (lower 127 (f x)) (f x)) 128) high a (λ (x : ℕ) h. lit< tt) xs k,
+    )
+
+zero-mark : (x : ℕ) → x < 256 → zeros 127 128 x ≡ pick (other 0 x) 0 128
+zero-mark x h = eqb-true (zeros 127 128 x) (pick (other 0 x) 0 128) (every (λ (y : ℕ). eqb (zeros 127 128 y) (pick (other 0 y) 0 128)) 256 refl x h)
+
+-- bytes that do not differ give 0, and no others do
 zero-same : (x b : ℕ) → bitXor x b ≡ 0 → x ≡ b
 zero-same x b e = omega (arith, xor-add-and x b, and-le-l x b, and-le-r x b)
 
@@ -64,133 +100,130 @@ differ-zero x b = go (eqb x b) refl
     go true e = eq-eqb (bitXor x b) 0 (ap (λ (n : ℕ). bitXor x n) (sym (eqb-true x b e)) ∙ xor-self x)
     go false e = ne-eqb (bitXor x b) 0 (λ z. eqb-false x b e (zero-same x b z))
 
--- ---- the top bit of each byte tells whether it is 0
+-- ---- which bytes are no capital letters
 
-abbrev low : ℕ → ℕ
-low n = number (replicate n 127)
+abbrev pub others : ℕ → ℕ → ℕ → ℕ → ℕ → ℕ
+others low from past high n = bitAnd (bitOr (bitXor (bitXor (bitAnd n low + from) (bitAnd n low + past)) high) n) high
 
--- what the code asks of a number whose bytes have `low` for their lower bits
-abbrev pub filled : ℕ → ℕ → ℕ
-filled low n = bitOr (bitOr (bitAnd n low + low) n) low
+other-mark : (x : ℕ) → x < 256 → others 127 63 37 128 x ≡ pick (capital x) 0 128
+other-mark x h = eqb-true (others 127 63 37 128 x) (pick (capital x) 0 128) (every (λ (y : ℕ). eqb (others 127 63 37 128 y) (pick (capital y) 0 128)) 256 refl x h)
 
-abbrev mark : ℕ → ℕ
-mark x = pick (eqb x 0) 128 0
+others-each : (xs : List ℕ) → Bytes xs
+    → others (each (λ (x : ℕ). 127) xs) (each (λ (x : ℕ). 63) xs) (each (λ (x : ℕ). 37) xs) (each (λ (x : ℕ). 128) xs) (number xs) ≡ marks capital xs
+others-each xs k =
+    let high : ℕ → ℕ = λ (x : ℕ). 128 in
+    let self : ℕ → ℕ = λ (x : ℕ). x in
+    let within-z : ℕ → ℕ = λ (x : ℕ). bitXor (lower 63 x) (lower 37 x) in
+    let flipped : ℕ → ℕ = λ (x : ℕ). bitXor (within-z x) 128 in
+    let w : Small within-z = λ (x : ℕ) h. xor-lt 8 (lower 63 x) (lower 37 x) (lower-small 63 (lit≤ tt) x h) (lower-small 37 (lit≤ tt) x h) in
+    let f : Small flipped = λ (x : ℕ) h. xor-lt 8 (within-z x) 128 (w x h) (lit< tt) in
+    let o : Small (λ (x : ℕ). bitOr (flipped x) x) = λ (x : ℕ) h. or-lt 8 (flipped x) x (f x h) h in
+    rw (
+      and-each self (λ (x : ℕ). 127) (λ (x : ℕ) h. h) (λ (x : ℕ) h. lit< tt) xs k,
+      sums (λ (x : ℕ). bitAnd x 127) (λ (x : ℕ). 63) xs,
+      sums (λ (x : ℕ). bitAnd x 127) (λ (x : ℕ). 37) xs,
+      xor-each (lower 63) (lower 37) (lower-small 63 (lit≤ tt)) (lower-small 37 (lit≤ tt)) xs k,
+      xor-each within-z high w (λ (x : ℕ) h. lit< tt) xs k,
+      or-each flipped self f (λ (x : ℕ) h. h) xs k,
+      and-each (λ (x : ℕ). bitOr (flipped x) x) high o (λ (x : ℕ) h. lit< tt) xs k,
+    )
+    (alike (others 127 63 37 128) (λ (x : ℕ). pick (capital x) 0 128) other-mark xs k)
 
-one-byte : (x : ℕ) → x < 256 → filled 127 x + mark x ≡ 255
-one-byte x h = eqb-true (filled 127 x + mark x) 255 (sym (table.at (λ (y : ℕ). eqb (filled 127 y + mark y) 255) (replicate 256 true) refl x h) ∙ getD-replicate 256 x true false h)
+-- ---- the eight bytes from a place on
 
-filled-step : (l n x : ℕ) → x < 256 → filled (l * 2 ^ 8 + 127) (n * 2 ^ 8 + x) ≡ filled l n * 2 ^ 8 + filled 127 x
-filled-step l n x h =
-    let a : bitAnd x 127 + 127 < 256 = omega (arith, and-le-r x 127) in
-    let s : (bitAnd n l * 2 ^ 8 + bitAnd x 127) + (l * 2 ^ 8 + 127) ≡ (bitAnd n l + l) * 2 ^ 8 + (bitAnd x 127 + 127) = omega arith in
-    ap (λ (m : ℕ). bitOr (bitOr (m + (l * 2 ^ 8 + 127)) (n * 2 ^ 8 + x)) (l * 2 ^ 8 + 127)) (and-block 8 n l x 127 h (lit< tt))
-    ∙ ap (λ (m : ℕ). bitOr (bitOr m (n * 2 ^ 8 + x)) (l * 2 ^ 8 + 127)) s
-    ∙ ap (λ (m : ℕ). bitOr m (l * 2 ^ 8 + 127)) (or-block 8 (bitAnd n l + l) n (bitAnd x 127 + 127) x a h)
-    ∙ or-block 8 (bitOr (bitAnd n l + l) n) l (bitOr (bitAnd x 127 + 127) x) 127 (or-lt 8 (bitAnd x 127 + 127) x a h) (lit< tt)
+module _ (a : List ℕ) (at : ℕ) (known : (i : ℕ) → getD a i 0 < 256) where
+  bytes : Bytes (eight a at)
+  unfolding Bytes
+  bytes = (known at, (known (at + 1), (known (at + 2), (known (at + 3), (known (at + 4), (known (at + 5), (known (at + 6), (known (at + 7), tt))))))))
 
-abbrev marks : List ℕ → List ℕ
-marks [] = []
-marks (x ∷ xs) = mark x ∷ marks xs
+  pub found : (b : ℕ) → b < 256 → zeros 0x7f7f7f7f7f7f7f7f 0x8080808080808080 (bitXor (number (eight a at)) (0x0101010101010101 * b)) ≡ marks (other b) (eight a at)
+  found b h =
+      let xs = eight a at in
+      let differ : ℕ → ℕ = λ (x : ℕ). bitXor x b in
+      let small : Small differ = λ (x : ℕ) k. xor-lt 8 x b k h in
+      let b8 : 0x0101010101010101 * b ≡ each (λ (x : ℕ). b) xs = omega arith in
+      ap (λ (n : ℕ). zeros 0x7f7f7f7f7f7f7f7f 0x8080808080808080 (bitXor (number xs) n)) b8
+      ∙ ap (zeros 0x7f7f7f7f7f7f7f7f 0x8080808080808080) (xor-each (λ (x : ℕ). x) (λ (x : ℕ). b) (λ (x : ℕ) k. k) (λ (x : ℕ) k. h) xs bytes)
+      ∙ zeros-each differ small xs bytes
+      ∙ alike (λ (x : ℕ). zeros 127 128 (differ x)) (λ (x : ℕ). pick (other b x) 0 128)
+      (λ (x : ℕ) k. zero-mark (differ x) (small x k) ∙ ap (λ (t : Bool). pick (not t) 0 128) (differ-zero x b)) xs bytes
 
-filled-number : (xs : List ℕ) → Bytes xs → filled (low (length xs)) (number xs) + number (marks xs) ≡ number (replicate (length xs) 255)
-unfolding Bytes
-filled-number [] k = refl
-filled-number (x ∷ xs) k =
-    let l : low (suc (length xs)) ≡ low (length xs) * 2 ^ 8 + 127 = lowest 127 (replicate (length xs) 127) in
-    let f : filled (low (suc (length xs))) (number (x ∷ xs)) ≡ filled (low (length xs)) (number xs) * 2 ^ 8 + filled 127 x =
-    ap (λ (m : ℕ). filled m (number (x ∷ xs))) l
-    ∙ ap (λ (m : ℕ). filled (low (length xs) * 2 ^ 8 + 127) m) (lowest x xs)
-    ∙ filled-step (low (length xs)) (number xs) x (k .0) in
-    omega (arith, f, one-byte x (k .0), filled-number xs (k .1))
+  pub found-others : others 0x7f7f7f7f7f7f7f7f 0x3f3f3f3f3f3f3f3f 0x2525252525252525 0x8080808080808080 (number (eight a at)) ≡ marks capital (eight a at)
+  found-others = others-each (eight a at) bytes
 
--- ---- the lowest mark tells where the first 0 is
+-- ---- the first mark tells how long the run is
 
 -- as many zeros as a number was shifted by stand below its own
 shifted-zeros : (j d a : ℕ) → trailingZeros (j + d) (a * 2 ^ j) ≡ j + trailingZeros d a
 unfolding trailingZeros
 shifted-zeros zero d a = rw (zero-add, zero-add, mul-one)
-shifted-zeros (suc j) d a =
-    rw (suc-add, suc-add, shifted-even a j, shifted-half a j) (ap suc (shifted-zeros j d a))
+shifted-zeros (suc j) d a = rw (suc-add, suc-add, shifted-even a j, shifted-half a j) (ap suc (shifted-zeros j d a))
 
-none-marked : (d n : ℕ) → trailingZeros (8 + d) (256 * n) ≡ 8 + trailingZeros d n
-none-marked d n = ap (λ (m : ℕ). trailingZeros (8 + d) m) (omega arith) ∙ shifted-zeros 8 d n
+unmarked : (d n : ℕ) → trailingZeros (8 + d) (256 * n) ≡ 8 + trailingZeros d n
+unmarked d n = ap (trailingZeros (8 + d)) (omega arith) ∙ shifted-zeros 8 d n
 
-first-marked : (d n : ℕ) → trailingZeros (8 + d) (128 + 256 * n) ≡ 7
+marked : (d n : ℕ) → trailingZeros (8 + d) (128 + 256 * n) ≡ 7
 unfolding trailingZeros
-first-marked d n =
-    let e : 8 + d ≡ 7 + suc d = omega arith in
-    let m : 128 + 256 * n ≡ (1 + 2 * n) * 2 ^ 7 = omega arith in
-    let o : (1 + 2 * n) % 2 ≡ 1 = omega arith in
-    ap (λ (k : ℕ). trailingZeros k (128 + 256 * n)) e
-    ∙ ap (λ (k : ℕ). trailingZeros (7 + suc d) k) m
-    ∙ shifted-zeros 7 (suc d) (1 + 2 * n)
-    ∙ ap (λ (k : ℕ). 7 + under k (trailingZeros d ((1 + 2 * n) / 2))) o
+marked d n =
+    let size : 8 + d ≡ 7 + suc d = omega arith in
+    let odd : 128 + 256 * n ≡ (1 + 2 * n) * 2 ^ 7 = omega arith in
+    let one : (1 + 2 * n) % 2 ≡ 1 = omega arith in
+    rw (size, odd) (shifted-zeros 7 (suc d) (1 + 2 * n) ∙ rw one)
 
--- each byte before the first 0 gives eight zeros, and that one seven
-pub first-zero : (xs : List ℕ) → trailingZeros (8 * length xs) (number (marks xs)) / 8 ≡ run (other 0) xs
-unfolding run trailingZeros
-first-zero [] = refl
-first-zero (x ∷ xs) = go (eqb x 0) (first-zero xs)
-  where
-    size : 8 * suc (length xs) ≡ 8 + 8 * length xs
-    size = omega arith
+module _ (class : ℕ → Bool) where
+  first-mark : (xs : List ℕ) → trailingZeros (8 * length xs) (marks class xs) / 8 ≡ run class xs
+  unfolding run trailingZeros
+  first-mark [] = refl
+  first-mark (x ∷ xs) = go (class x) (first-mark xs)
+    where
+      size : 8 * suc (length xs) ≡ 8 + 8 * length xs
+      size = omega arith
 
-    go : (t : Bool) → trailingZeros (8 * length xs) (number (marks xs)) / 8 ≡ run (other 0) xs
-        → trailingZeros (8 * suc (length xs)) (pick t 128 0 + 256 * number (marks xs)) / 8 ≡ pick (not t) (suc (run (other 0) xs)) 0
-    go true e = rw (size, first-marked (8 * length xs) (number (marks xs)))
-    go false e = rw (size, zero-add, none-marked (8 * length xs) (number (marks xs))) (omega (arith, e))
+      go : (t : Bool) → trailingZeros (8 * length xs) (marks class xs) / 8 ≡ run class xs
+          → trailingZeros (8 * suc (length xs)) (pick t 0 128 + 256 * marks class xs) / 8 ≡ pick t (suc (run class xs)) 0
+      go true e = rw (size, zero-add, unmarked (8 * length xs) (marks class xs)) (omega (arith, e))
+      go false e = rw (size, marked (8 * length xs) (marks class xs))
 
--- the run of bytes that differ from b is that of bytes that do not become 0
-pub differ-run : (b : ℕ) (xs : List ℕ) → run (other 0) (differ b xs) ≡ run (other b) xs
-unfolding run
-differ-run b [] = refl
-differ-run b (x ∷ xs) = rw (differ-zero x b) (ap (λ (n : ℕ). pick (not (eqb x b)) (suc n) 0) (differ-run b xs))
-
--- what the code computes of eight bytes
-pub found : (b : ℕ) → b < 256 → (xs : List ℕ) → length xs ≡ 8 → Bytes xs
-    → trailingZeros 64 ((2 ^ 64 - 1) - filled 0x7f7f7f7f7f7f7f7f (bitXor (number xs) (0x0101010101010101 * b))) / 8 ≡ run (other b) xs
-found b h xs e k =
-    let same : number (replicate 8 b) ≡ 0x0101010101010101 * b = omega arith in
-    let d : bitXor (number xs) (0x0101010101010101 * b) ≡ number (differ b xs) =
-    ap (λ (n : ℕ). bitXor (number xs) n) (sym same)
-    ∙ ap (λ (n : ℕ). bitXor (number xs) (number (replicate n b))) (sym e)
-    ∙ xor-number b h xs k in
-    let l : length (differ b xs) ≡ 8 = length-differ b xs ∙ e in
-    let f : filled (low 8) (number (differ b xs)) + number (marks (differ b xs)) ≡ number (replicate 8 255) =
-    rw l at (filled-number (differ b xs) (differ-bytes b h xs k)) in
-    let m : (2 ^ 64 - 1) - filled 0x7f7f7f7f7f7f7f7f (number (differ b xs)) ≡ number (marks (differ b xs)) = omega (arith, f) in
-    let z : trailingZeros 64 (number (marks (differ b xs))) / 8 ≡ run (other 0) (differ b xs) = rw l at (first-zero (differ b xs)) in
-    ap (λ (n : ℕ). trailingZeros 64 ((2 ^ 64 - 1) - filled 0x7f7f7f7f7f7f7f7f n) / 8) d
-    ∙ ap (λ (n : ℕ). trailingZeros 64 n / 8) m
-    ∙ z
-    ∙ differ-run b xs
-
--- ---- the eight bytes as a part of the bytes from there on
-
-pub eight-bytes : (a : List ℕ) (at : ℕ) → ((i : ℕ) → getD a i 0 < 256) → Bytes (eight a at)
-unfolding Bytes
-eight-bytes a at h = (h at, (h (at + 1), (h (at + 2), (h (at + 3), (h (at + 4), (h (at + 5), (h (at + 6), (h (at + 7), tt))))))))
+  -- a whole run has no mark
+  no-mark : (xs : List ℕ) → run class xs ≡ length xs → marks class xs ≡ 0
+  unfolding run
+  no-mark [] e = refl
+  no-mark (x ∷ xs) e = go (class x) e (no-mark xs)
+    where
+      go : (t : Bool) → pick t (suc (run class xs)) 0 ≡ suc (length xs) → (run class xs ≡ length xs → marks class xs ≡ 0)
+          → pick t 0 128 + 256 * marks class xs ≡ 0
+      go true e rest = omega (arith, rest (omega arith))
+      go false e rest = absurd (omega arith)
 
 next : (a : List ℕ) (i j : ℕ) → i < length a → j ≡ suc i → {xs : List ℕ} → drop j a ≡ xs → drop i a ≡ getD a i 0 ∷ xs
 next a i j h e r = drop-cons a i 0 h ∙ ap (λ (n : ℕ). getD a i 0 ∷ drop n a) (sym e) ∙ ap (λ (ys : List ℕ). getD a i 0 ∷ ys) r
 
-eight-drop : (a : List ℕ) (at : ℕ) → at + 8 ≤ length a → drop at a ≡ eight a at ++ drop (at + 8) a
-eight-drop a at h =
-    next a at (at + 1) (omega arith) (omega arith)
-    (next a (at + 1) (at + 2) (omega arith) (omega arith)
-    (next a (at + 2) (at + 3) (omega arith) (omega arith)
-    (next a (at + 3) (at + 4) (omega arith) (omega arith)
-    (next a (at + 4) (at + 5) (omega arith) (omega arith)
-    (next a (at + 5) (at + 6) (omega arith) (omega arith)
-    (next a (at + 6) (at + 7) (omega arith) (omega arith)
-    (next a (at + 7) (at + 8) (omega arith) (omega arith) refl)))))))
-
 module _ (class : ℕ → Bool) (a : List ℕ) (at : ℕ) (h : at + 8 ≤ length a) where
-  pub run-inside : run class (eight a at) < 8 → run class (drop at a) ≡ run class (eight a at)
-  run-inside k = ap (run class) (eight-drop a at h) ∙ inside class (eight a at) (drop (at + 8) a) k
+  in-front : drop at a ≡ eight a at ++ drop (at + 8) a
+  in-front =
+      next a at (at + 1) (omega arith) (omega arith)
+      (next a (at + 1) (at + 2) (omega arith) (omega arith)
+      (next a (at + 2) (at + 3) (omega arith) (omega arith)
+      (next a (at + 3) (at + 4) (omega arith) (omega arith)
+      (next a (at + 4) (at + 5) (omega arith) (omega arith)
+      (next a (at + 5) (at + 6) (omega arith) (omega arith)
+      (next a (at + 6) (at + 7) (omega arith) (omega arith)
+      (next a (at + 7) (at + 8) (omega arith) (omega arith) refl)))))))
 
-  pub run-through : run class (eight a at) ≡ 8 → run class (drop at a) ≡ 8 + run class (drop (at + 8) a)
-  run-through e = ap (run class) (eight-drop a at h) ∙ through class (eight a at) (drop (at + 8) a) e
+  module _ (m : ℕ) (e : m ≡ marks class (eight a at)) where
+    told : trailingZeros 64 m / 8 ≡ run class (eight a at)
+    told = ap (λ (n : ℕ). trailingZeros 64 n / 8) e ∙ first-mark class (eight a at)
 
-  pub at-most-8 : run class (eight a at) ≤ 8
-  at-most-8 = within class (eight a at)
+    pub at-most : trailingZeros 64 m / 8 ≤ 8
+    at-most = omega (arith, told, within class (eight a at))
+
+    pub ends-here : (m ≡ 0 → ⊥) → run class (drop at a) ≡ trailingZeros 64 m / 8
+    ends-here some =
+        let never : run class (eight a at) ≡ 8 → ⊥ = λ w. some (e ∙ no-mark class (eight a at) w) in
+        let short : run class (eight a at) < 8 = omega (arith, within class (eight a at), never) in
+        ap (run class) in-front ∙ inside class (eight a at) (drop (at + 8) a) short ∙ sym told
+
+    pub goes-on : m ≡ 0 → run class (drop at a) ≡ 8 + run class (drop (at + 8) a)
+    goes-on none =
+        let full : run class (eight a at) ≡ 8 = sym told ∙ ap (λ (n : ℕ). trailingZeros 64 n / 8) none ∙ ap (λ (n : ℕ). n / 8) (trailing-of-zero 64) in
+        ap (run class) in-front ∙ through class (eight a at) (drop (at + 8) a) full

@@ -3,11 +3,11 @@ use mathlib.Core.Path.{_≡_, refl, sym, ap, _∙_}
 use mathlib.Core.Bool.{Bool, true, false, _&&_}
 use mathlib.Core.List.{List, [], _∷_, _++_}
 use Prim.Native.Nat.{ℕ, zero, suc, _+_, _≤_, _<_, zero-le, suc-le-suc}
-use native.Mathlib.Nat.{not-suc-le-zero, le-of-suc-le-suc}
+use native.Mathlib.Nat.{zero-add, not-suc-le-zero, le-of-suc-le-suc}
 use native.Mathlib.Numerals.{add-one}
 use native.Mathlib.Omega.{arith}
 use lib.ListN.{length, getD, take, drop, drop-of-length-le}
-use lib.Seq.{drop-cons}
+use lib.Seq.{drop-cons, drop-drop}
 use lib.Dec.{leb, leb·zero, leb·suc-zero, leb·suc-suc}
 use Rattle.octets.specs.Choice.{pick}
 use Rattle.octets.specs.Runs.{run, only}
@@ -114,6 +114,23 @@ module _ (class : ℕ → Bool) where
 
   pub only-ended : (xs : List ℕ) (i : ℕ) → length xs ≤ i → only class (drop i xs) ≡ true
   only-ended xs i h = rw (drop-of-length-le xs h) (leb·zero (run class []))
+
+-- a run of a class is passed over within the run of a wider one
+wider : (narrow wide : ℕ → Bool) → ((x : ℕ) → narrow x ≡ true → wide x ≡ true)
+    → (n : ℕ) (xs : List ℕ) → n ≤ run narrow xs → n + run wide (drop n xs) ≡ run wide xs
+unfolding run
+wider narrow wide sub zero xs h = zero-add (run wide xs)
+wider narrow wide sub (suc n) [] h = absurd (not-suc-le-zero h)
+wider narrow wide sub (suc n) (x ∷ xs) h = go (narrow x) refl h (wider narrow wide sub n xs)
+  where
+    go : (t : Bool) → narrow x ≡ t → suc n ≤ pick t (suc (run narrow xs)) 0 → (n ≤ run narrow xs → n + run wide (drop n xs) ≡ run wide xs)
+        → suc n + run wide (drop n xs) ≡ pick (wide x) (suc (run wide xs)) 0
+    go true e h rest = rw (sub x e) (omega (arith, rest (le-of-suc-le-suc h)))
+    go false e h rest = absurd (not-suc-le-zero h)
+
+pub wider-at : (narrow wide : ℕ → Bool) → ((x : ℕ) → narrow x ≡ true → wide x ≡ true)
+    → (xs : List ℕ) (i n : ℕ) → n ≤ run narrow (drop i xs) → n + run wide (drop (i + n) xs) ≡ run wide (drop i xs)
+wider-at narrow wide sub xs i n h = ap (λ (ys : List ℕ). n + run wide ys) (sym (drop-drop n i xs)) ∙ wider narrow wide sub n (drop i xs) h
 
 -- a test that goes on over a list, joined to what was found before it
 pub onward : (so t u : Bool) {v : Bool} → v ≡ t && u → (so && t) && u ≡ so && v

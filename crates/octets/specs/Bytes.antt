@@ -39,10 +39,13 @@ blank x = eqb x space || eqb x tab
 abbrev pub between : ℕ → ℕ → ℕ → Bool
 between a z x = leb a x && leb x z
 
+abbrev pub capital : ℕ → Bool
+capital = between 65 90
+
 -- document 01, "Keys": ASCII letters, digits and . , / _ -
 abbrev pub keyByte : ℕ → Bool
 keyByte x =
-    between 65 90 x
+    capital x
     || (between 97 122 x || (between 48 57 x || (eqb x 46 || (eqb x comma || (eqb x 47 || (eqb x 95 || eqb x 45))))))
 
 abbrev pub other : ℕ → ℕ → Bool
@@ -54,4 +57,4 @@ bare x = not (eqb x semicolon || eqb x colon)
 
 -- an ASCII letter in lower case, and any other byte as it is
 abbrev pub lowered : ℕ → ℕ
-lowered x = pick (between 65 90 x) (x + 32) x
+lowered x = pick (capital x) (x + 32) x

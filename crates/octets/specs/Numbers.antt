@@ -1,12 +1,22 @@
--- Bytes as one number, the first one lowest.
+-- Bytes as one number, the first one lowest, and what is asked of each of them.
 -- Assumes nothing.
 use Prim.Native.Nat.{ℕ, _+_, _*_}
+use mathlib.Core.Bool.{Bool}
 use mathlib.Core.List.{List, [], _∷_}
 use lib.ListN.{getD}
+use Rattle.octets.specs.Choice.{pick}
+
+-- what f makes of each byte, as one number
+abbrev pub each : (ℕ → ℕ) → List ℕ → ℕ
+each f [] = 0
+each f (x ∷ xs) = f x + 256 * each f xs
 
 abbrev pub number : List ℕ → ℕ
-number [] = 0
-number (x ∷ xs) = x + 256 * number xs
+number = each (λ (x : ℕ). x)
+
+-- the bytes that are not of the class have a mark, their top bit
+abbrev pub marks : (ℕ → Bool) → List ℕ → ℕ
+marks class = each (λ (x : ℕ). pick (class x) 0 128)
 
 -- the eight bytes from `at` on
 abbrev pub eight : List ℕ → ℕ → List ℕ

@@ -1,10 +1,21 @@
 // Eight bytes as one number, so that one question is asked of all of them at once.
 ghost use mathlib.Core.Path.{_≡_};
-ghost use Prim.Native.Nat.{_+_, _≤_, _<_};
+ghost use Prim.Native.Nat.{_+_, _/_, _≤_, _<_};
 ghost use lib.ListN.{length, getD};
-ghost use Rattle.octets.specs.Bytes.{other};
-ghost use Rattle.octets.specs.Runs.{run};
-ghost use Rattle.octets.specs.Numbers.{number, eight};
+ghost use lib.Count.{trailingZeros};
+ghost use Rattle.octets.specs.Bytes.{capital, other};
+ghost use Rattle.octets.specs.Numbers.{number, marks, eight};
+
+// 1 in each byte, the lower seven bits of each, and the top bit of each.
+const ONES: u64 = 0x0101_0101_0101_0101;
+
+const LOW: u64 = 0x7f7f_7f7f_7f7f_7f7f;
+
+const HIGH: u64 = 0x8080_8080_8080_8080;
+// What lifts an A, and what lifts the letter behind Z, to the top bit.
+const FROM_A: u64 = 0x3f3f_3f3f_3f3f_3f3f;
+
+const PAST_Z: u64 = 0x2525_2525_2525_2525;
 
 fn byte(a: &[u8], at: usize) -> u64
     requires { ⌜ at < length (now a) ⌝ }
@@ -28,18 +39,31 @@ fn number_at(a: &[u8], at: usize) -> u64
         + 0x100_0000_0000_0000 * byte(a, at + 7)
 }
 
-// 1 in each byte.
-const ONES: u64 = 0x0101_0101_0101_0101;
-// The lower seven bits of each byte.
-const LOW: u64 = 0x7f7f_7f7f_7f7f_7f7f;
-
-// How many of the 8 bytes from `at` on stand before the first b: 8 where none of them is b.
-pub fn first_of_8(a: &[u8], at: usize, b: u8) -> usize
+// Marks each of the 8 bytes from `at` on that is b.
+pub fn marks_of(a: &[u8], at: usize, b: u8) -> u64
     requires { ⌜ at + 8 ≤ length (now a) ⌝ }
-    ensures { λ r. ⌜ r ≡ run (other b) (eight (now (a .entry)) at) ⌝ }
+    ensures { λ r. ⌜ r ≡ marks (other b) (eight (now (a .entry)) at) ⌝ }
 {
-    // A byte is 0 here where it was b. The sum carries into the top bit of every other byte, and no further.
+    // A byte that is b becomes 0. Every other one has the top bit in the sum or had it before.
     let differ = number_at(a, at) ^ (ONES * b as u64);
-    let others = ((differ & LOW) + LOW) | differ | LOW;
-    (u64::trailing_zeros(!others) / 8) as usize
+    ((((differ & LOW) + LOW) | differ) & HIGH) ^ HIGH
+}
+
+// Marks each of the 8 bytes from `at` on that is no capital letter.
+pub fn marks_of_others(a: &[u8], at: usize) -> u64
+    requires { ⌜ at + 8 ≤ length (now a) ⌝ }
+    ensures { λ r. ⌜ r ≡ marks capital (eight (now (a .entry)) at) ⌝ }
+{
+    // One sum has the top bit from A on, the other one past Z: a capital letter has it in one of them.
+    let bytes = number_at(a, at);
+    let low = bytes & LOW;
+    let capitals = (low + FROM_A) ^ (low + PAST_Z);
+    ((capitals ^ HIGH) | bytes) & HIGH
+}
+
+// How many bytes stand before the first mark.
+pub fn first_mark(marked: u64) -> usize
+    ensures { λ r. ⌜ r ≡ trailingZeros 64 marked / 8 ⌝ }
+{
+    (u64::trailing_zeros(marked) / 8) as usize
 }

@@ -12,7 +12,6 @@ ghost use Rattle.octets.specs.Keys.{keyOf, opensReserved, standsAlone, s
 ghost use Rattle.octets.specs.Views.{viewed};
 
 mod eights;
-mod key_bytes;
 
 // The most bytes of a feed, of a line to fold, of a value to quote and of the writer's output.
 pub const LONGEST: usize = 1_048_576;
@@ -66,15 +65,40 @@ pub enum Key {
     Run(usize),
 }
 
+// Whether the byte is a letter, a digit or one of . , / _ -
+fn is_key_byte(x: u8) -> bool
+    ensures { λ r. ⌜ r ≡ keyByte x ⌝ }
+{
+    ((b'A' <= x) & (x <= b'Z'))
+        | (((b'a' <= x) & (x <= b'z'))
+            | (((b'0' <= x) & (x <= b'9'))
+                | ((x == b'.') | ((x == b',') | ((x == b'/') | ((x == b'_') | (x == b'-')))))))
+}
+
+// Passes over capital letters at the front, eight bytes at a time: most keys are made of them.
+fn skip_capitals(line: &[u8]) -> usize
+    ensures { λ r. ⌜ (r ≤ length (now (line .entry))) × (r + run keyByte (drop r (now (line .entry))) ≡ run keyByte (now (line .entry))) ⌝ }
+{
+    let mut i: usize = 0;
+    let mut left = line.len();
+    while 8 <= left {
+        let marked = eights::marks_of_others(line, i);
+        if marked != 0 {
+            return i + eights::first_mark(marked);
+        }
+        i += 8;
+        left -= 8;
+    }
+    i
+}
+
 // The length of the longest run of key bytes at the front.
 pub fn key_run(line: &[u8]) -> usize
     ensures { λ r. ⌜ r ≡ run keyByte (now (line .entry)) ⌝ }
 {
-    let table = key_bytes::KEY_BYTES;
-    let mut i: usize = 0;
+    let mut i = skip_capitals(line);
     while i < line.len() {
-        let b = line[i] as usize;
-        if !table[b] {
+        if !is_key_byte(line[i]) {
             return i;
         }
         i += 1;
@@ -132,9 +156,9 @@ pub fn find_near(a: &[u8], from: usize, b: u8) -> usize
     let mut i = from;
     let mut left = least(a.len() - from, NEAR);
     while 8 <= left {
-        let n = eights::first_of_8(a, i, b);
-        if n < 8 {
-            return i + n;
+        let marked = eights::marks_of(a, i, b);
+        if marked != 0 {
+            return i + eights::first_mark(marked);
         }
         i += 8;
         left -= 8;

@@ -5,9 +5,8 @@ use lib.ListN.{length, drop}
 use native.Mathlib.Omega.{arith}
 use Rattle.octets.specs.Bytes.{other}
 use Rattle.octets.specs.Runs.{run}
-use Rattle.octets.specs.Numbers.{eight}
 use Rattle.octets.proofs.Runs.{ended}
-use Rattle.octets.proofs.Numbers.{run-inside, run-through, at-most-8}
+use Rattle.octets.proofs.Numbers.{at-most, ends-here, goes-on}
 use Rattle.octets.proofs.find_near.Statement.{statement}
 use Rattle.octets.proofs.find_near.Tie as tie
 
@@ -29,15 +28,19 @@ least-requires c κs = tt
 loop-holds : tie.Need-loop-holds Inv-loop μ-loop
 loop-holds c = (omega (arith, c .least .ensures), refl)
 
-first-of-8-requires : tie.Need-first-of-8-requires Inv-loop μ-loop
-first-of-8-requires c κs = omega arith
+marks-of-requires : tie.Need-marks-of-requires Inv-loop μ-loop
+marks-of-requires c κs = omega arith
+
+first-mark-requires : tie.Need-first-mark-requires Inv-loop μ-loop
+first-mark-requires c κs = tt
 
 add-result : tie.Need-add-result Inv-loop μ-loop
-add-result c = omega arith
+add-result c = let s = c .before .before .before .before .before .before .before .before .args in let m = c .before .before .marks-of in
+    omega (arith, c .first-mark .ensures, at-most (other (s .b)) (s .a .now) (c .before .before .before .before .loop .i) (omega arith) (m .result) (m .ensures))
 
 returns-2 : tie.Need-returns-2 Inv-loop μ-loop
-returns-2 c = let s = c .before .before .before .before .before .before .before .args in let i = c .before .before .before .loop .i in
-    omega (arith, c .before .first-of-8 .ensures, run-inside (other (s .b)) (s .a .now) i (omega arith) (omega (arith, c .before .first-of-8 .ensures)))
+returns-2 c = let s = c .before .before .before .before .before .before .before .before .args in let m = c .before .before .marks-of in
+    omega (arith, c .first-mark .ensures, ends-here (other (s .b)) (s .a .now) (c .before .before .before .before .loop .i) (omega arith) (m .result) (m .ensures) (c .before .if2 .taken))
 
 add-i : tie.Need-add-i Inv-loop μ-loop
 add-i c = omega arith
@@ -46,10 +49,8 @@ loop-less : tie.Need-loop-less Inv-loop μ-loop
 loop-less c = omega arith
 
 loop-again : tie.Need-loop-again Inv-loop μ-loop
-loop-again c = let s = c .before .before .before .before .before .before .before .args in let i = c .before .before .before .loop .i in
-    let whole : run (other (s .b)) (eight (s .a .now) i) ≡ 8 =
-    omega (arith, c .before .first-of-8 .ensures, at-most-8 (other (s .b)) (s .a .now) i (omega arith)) in
-    (omega arith, omega (arith, run-through (other (s .b)) (s .a .now) i (omega arith) whole))
+loop-again c = let s = c .before .before .before .before .before .before .before .args in let m = c .before .marks-of in
+    (omega arith, omega (arith, goes-on (other (s .b)) (s .a .now) (c .before .before .before .loop .i) (omega arith) (m .result) (m .ensures) (c .if2 .left)))
 
 find-byte-requires : tie.Need-find-byte-requires Inv-loop μ-loop
 find-byte-requires c κs = tt
@@ -67,7 +68,8 @@ find-near-spec =
     sub-least
     least-requires
     loop-holds
-    first-of-8-requires
+    marks-of-requires
+    first-mark-requires
     add-result
     returns-2
     add-i
