@@ -3,6 +3,7 @@ pub mod Laid
 pub mod Laying
 pub mod Writing
 pub mod Runs
+pub mod Hits
 pub mod Numbers
 pub mod Words
 pub mod Every

@@ -109,18 +109,18 @@ pub fn key_run(line: &[u8]) -> usize
 // How many bytes count as near: most lines are shorter.
 const NEAR: usize = 64;
 
-// Whether one of the 32 bytes from `at` on is b. The loop has no branch, so that it becomes vector code.
-fn any_of_32(a: &[u8], at: usize, b: u8) -> bool
-    requires { ⌜ at + 32 ≤ length (now a) ⌝ }
-    ensures { λ r. ⌜ (r ≡ false → run (other b) (drop at (now (a .entry))) ≡ 32 + run (other b) (drop (at + 32) (now (a .entry)))) ⌝ }
+// Whether one of the 64 bytes from `at` on is b. The loop has no branch, so that it becomes vector code.
+fn any_of_64(a: &[u8], at: usize, b: u8) -> bool
+    requires { ⌜ at + 64 ≤ length (now a) ⌝ }
+    ensures { λ r. ⌜ (r ≡ false → run (other b) (drop at (now (a .entry))) ≡ 64 + run (other b) (drop (at + 64) (now (a .entry)))) ⌝ }
 {
-    let mut hit = false;
+    let mut hit: u8 = 0;
     let mut j: usize = 0;
-    while j < 32 {
-        hit = hit | (a[at + j] == b);
+    while j < 64 {
+        hit = hit | (a[at + j] == b) as u8;
         j += 1;
     }
-    hit
+    hit != 0
 }
 
 // The place of the first b from `from` on, or the end.
@@ -129,13 +129,13 @@ pub fn find_byte(a: &[u8], from: usize, b: u8) -> usize
 {
     let mut i = from;
     while i < a.len() {
-        if a.len() - i < 32 {
+        if a.len() - i < 64 {
             break;
         }
-        if any_of_32(a, i, b) {
+        if any_of_64(a, i, b) {
             break;
         }
-        i += 32;
+        i += 64;
     }
     while i < a.len() {
         if a[i] == b {

@@ -25,23 +25,23 @@ fn any_fold_of_32(feed: &[u8], at: usize) -> bool
     ensures { λ r. ⌜ (r ≡ false → toFold (drop at (now (feed .entry))) ≡ 32 + toFold (drop (at + 32) (now (feed .entry)))) ⌝ }
 {
     // Most of a long line holds no LF at all, which takes half as long to see.
-    let mut broken = false;
+    let mut broken: u8 = 0;
     let mut k: usize = 0;
     while k < 32 {
-        broken = broken | (feed[at + k] == b'\n');
+        broken = broken | (feed[at + k] == b'\n') as u8;
         k += 1;
     }
-    if !broken {
+    if broken == 0 {
         return false;
     }
-    let mut hit = false;
+    let mut hit: u8 = 0;
     let mut j: usize = 0;
     while j < 32 {
         let i = at + j;
-        hit = hit | is_fold(feed[i], feed[i + 1]);
+        hit = hit | is_fold(feed[i], feed[i + 1]) as u8;
         j += 1;
     }
-    hit
+    hit != 0
 }
 
 // The place of the first fold from `from` on, or the end. Lines that are not folded are passed over in blocks.

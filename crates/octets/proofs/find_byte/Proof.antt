@@ -28,8 +28,8 @@ loop-holds c = refl
 sub-if1 : tie.Need-sub-if1 Inv-loop μ-loop Inv-loop2 μ-loop2
 sub-if1 c = omega arith
 
-any-of-32-requires : tie.Need-any-of-32-requires Inv-loop μ-loop Inv-loop2 μ-loop2
-any-of-32-requires c κs = omega arith
+any-of-64-requires : tie.Need-any-of-64-requires Inv-loop μ-loop Inv-loop2 μ-loop2
+any-of-64-requires c κs = omega arith
 
 add-i : tie.Need-add-i Inv-loop μ-loop Inv-loop2 μ-loop2
 add-i c = omega arith
@@ -39,7 +39,7 @@ loop-less c = omega arith
 
 loop-again : tie.Need-loop-again Inv-loop μ-loop Inv-loop2 μ-loop2
 loop-again c = let s = c .before .before .before .before .before .before .args in
-    omega (arith, c .before .any-of-32 .ensures (c .if2 .left))
+    omega (arith, c .before .any-of-64 .ensures (c .if2 .left))
 
 loop2-holds : tie.Need-loop2-holds Inv-loop μ-loop Inv-loop2 μ-loop2
 loop2-holds c = c .before .loop .inv
@@ -75,7 +75,7 @@ find-byte-spec =
     μ-loop2
     loop-holds
     sub-if1
-    any-of-32-requires
+    any-of-64-requires
     add-i
     loop-less
     loop-again
