@@ -12,6 +12,7 @@ ghost use Rattle.octets.specs.Keys.{keyOf, opensReserved, standsAlone, s
 ghost use Rattle.octets.specs.Views.{viewed};
 
 mod eights;
+mod key_bytes;
 
 // The most bytes of a feed, of a line to fold, of a value to quote and of the writer's output.
 pub const LONGEST: usize = 1_048_576;
@@ -65,16 +66,6 @@ pub enum Key {
     Run(usize),
 }
 
-// Whether the byte is a letter, a digit or one of . , / _ -
-fn is_key_byte(x: u8) -> bool
-    ensures { λ r. ⌜ r ≡ keyByte x ⌝ }
-{
-    ((b'A' <= x) & (x <= b'Z'))
-        | (((b'a' <= x) & (x <= b'z'))
-            | (((b'0' <= x) & (x <= b'9'))
-                | ((x == b'.') | ((x == b',') | ((x == b'/') | ((x == b'_') | (x == b'-')))))))
-}
-
 // Passes over capital letters at the front, eight bytes at a time: most keys are made of them.
 fn skip_capitals(line: &[u8]) -> usize
     ensures { λ r. ⌜ (r ≤ length (now (line .entry))) × (r + run keyByte (drop r (now (line .entry))) ≡ run keyByte (now (line .entry))) ⌝ }
@@ -96,9 +87,11 @@ fn skip_capitals(line: &[u8]) -> usize
 pub fn key_run(line: &[u8]) -> usize
     ensures { λ r. ⌜ r ≡ run keyByte (now (line .entry)) ⌝ }
 {
+    let table = key_bytes::KEY_BYTES;
     let mut i = skip_capitals(line);
     while i < line.len() {
-        if !is_key_byte(line[i]) {
+        let b = line[i] as usize;
+        if !table[b] {
             return i;
         }
         i += 1;

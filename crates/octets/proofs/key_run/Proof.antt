@@ -8,15 +8,16 @@ use borrow.Author.Needs.{needs}
 use borrow.Author.Tests.{not-true, not-false}
 use Rattle.octets.specs.Bytes.{keyByte}
 use Rattle.octets.specs.Runs.{run}
+use Rattle.octets.proofs.KeyTable.{rule}
 use Rattle.octets.proofs.Runs.{on, stop, ended}
 use Rattle.octets.proofs.key_run.Statement.{statement}
 use Rattle.octets.proofs.key_run.Tie as tie
 
 abbrev Inv-loop : tie.InvT-loop
-Inv-loop line i₀ i = (i ≤ length line) × (i + run keyByte (drop i line) ≡ run keyByte line)
+Inv-loop line table i₀ i = (i ≤ length line) × (i + run keyByte (drop i line) ≡ run keyByte line)
 
 abbrev μ-loop : tie.MeasureT-loop
-μ-loop line i₀ i = length line - i
+μ-loop line table i₀ i = length line - i
 
 skip-capitals-requires : tie.Need-skip-capitals-requires Inv-loop μ-loop
 skip-capitals-requires c κs = search needs
@@ -24,15 +25,19 @@ skip-capitals-requires c κs = search needs
 loop-holds : tie.Need-loop-holds Inv-loop μ-loop
 loop-holds c = c .skip-capitals .ensures
 
-shared-slice-read-is-key-byte : tie.Need-shared-slice-read-is-key-byte Inv-loop μ-loop
-shared-slice-read-is-key-byte c = omega arith
+shared-slice-read-b : tie.Need-shared-slice-read-b Inv-loop μ-loop
+shared-slice-read-b c = omega arith
 
-is-key-byte-requires : tie.Need-is-key-byte-requires Inv-loop μ-loop
-is-key-byte-requires c κs = search needs
+cast-b : tie.Need-cast-b Inv-loop μ-loop
+cast-b c = omega (arith, c .shared-slice-known2 .given (c .before .before .loop .i))
+
+array-read-if1 : tie.Need-array-read-if1 Inv-loop μ-loop
+array-read-if1 c = omega (arith, c .shared-slice-known2 .given (c .before .before .loop .i))
 
 returns : tie.Need-returns Inv-loop μ-loop
-returns c = let line = c .before .before .before .before .before .before .before .args .line .now in let i = c .before .before .before .before .loop .i in
-    let e : keyByte (getD line i 0) ≡ false = sym (c .before .is-key-byte .ensures) ∙ not-true _ (c .if1 .taken) in
+returns c = let line = c .before .before .before .before .before .before .args .line .now in let i = c .before .before .before .loop .i in
+    let b = getD line i 0 in
+    let e : keyByte b ≡ false = sym (rule b (omega (arith, c .before .shared-slice-known2 .given i))) ∙ not-true _ (c .if1 .taken) in
     omega (arith, stop keyByte line i (omega arith) e)
 
 add-i : tie.Need-add-i Inv-loop μ-loop
@@ -42,8 +47,9 @@ loop-less : tie.Need-loop-less Inv-loop μ-loop
 loop-less c = omega arith
 
 loop-again : tie.Need-loop-again Inv-loop μ-loop
-loop-again c = let line = c .before .before .before .before .before .before .before .args .line .now in let i = c .before .before .before .before .loop .i in
-    let e : keyByte (getD line i 0) ≡ true = sym (c .before .is-key-byte .ensures) ∙ not-false _ (c .if1 .left) in
+loop-again c = let line = c .before .before .before .before .before .before .args .line .now in let i = c .before .before .before .loop .i in
+    let b = getD line i 0 in
+    let e : keyByte b ≡ true = sym (rule b (omega (arith, c .before .shared-slice-known2 .given i))) ∙ not-false _ (c .if1 .left) in
     (omega arith, omega (arith, on keyByte line i (omega arith) e))
 
 returns-2 : tie.Need-returns-2 Inv-loop μ-loop
@@ -57,8 +63,9 @@ key-run-spec =
     μ-loop
     skip-capitals-requires
     loop-holds
-    shared-slice-read-is-key-byte
-    is-key-byte-requires
+    shared-slice-read-b
+    cast-b
+    array-read-if1
     returns
     add-i
     loop-less
