@@ -100,7 +100,7 @@ pub fn key_run(line: &[u8]) -> usize
 }
 
 // How many bytes count as near: most lines are shorter.
-const NEAR: usize = 64;
+const NEAR: usize = 256;
 
 // Whether one of the 64 bytes from `at` on is b. The loop has no branch, so that it becomes vector code.
 fn any_of_64(a: &[u8], at: usize, b: u8) -> bool
