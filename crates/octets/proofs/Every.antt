@@ -21,3 +21,6 @@ every test (suc n) e k h = go (test n) refl e (eqb k n) refl (every test n)
     go true p q true r rest = subst (λ (m : ℕ). test m ≡ true) (sym (eqb-true k n r)) p
     go true p q false r rest = rest q k (omega (arith, eqb-false k n r))
     go false p q u r rest = cc
+
+pub equal : (f g : ℕ → ℕ) (n : ℕ) → all (λ (k : ℕ). eqb (f k) (g k)) n ≡ true → (k : ℕ) → k < n → f k ≡ g k
+equal f g n e k h = eqb-true (f k) (g k) (every (λ (j : ℕ). eqb (f j) (g j)) n e k h)

@@ -7,16 +7,16 @@ use native.Mathlib.Nat.{zero-add, suc-add, mul-one}
 use native.Mathlib.Omega.{arith}
 use lib.ListN.{length, getD, drop}
 use lib.Seq.{drop-cons}
-use lib.Dec.{eqb, ltb, lit<, lit≤}
+use lib.Dec.{eqb, lit<, lit≤}
 use lib.Bits.{bitAnd, bitOr, bitXor, and-le-l, and-le-r, and-zero-l, or-zero-l, xor-zero-l, and-block, or-block, or-lt, xor-block, xor-lt, xor-self, xor-add-and, shifted-half, shifted-even}
 use lib.Count.{trailingZeros, under, trailing-of-zero}
-use borrow.Author.Tests.{eqb-true, eqb-false, eq-eqb, ne-eqb, ltb-true}
+use borrow.Author.Tests.{eqb-true, eqb-false, eq-eqb, ne-eqb}
 use Rattle.octets.specs.Choice.{pick}
 use Rattle.octets.specs.Bytes.{capital, other}
 use Rattle.octets.specs.Runs.{run}
 use Rattle.octets.specs.Numbers.{each, number, marks, eight}
 use Rattle.octets.proofs.Runs.{within, through, inside}
-use Rattle.octets.proofs.Every.{every}
+use Rattle.octets.proofs.Every.{equal}
 
 abbrev Small : (ℕ → ℕ) → Type 0
 Small f = (x : ℕ) → x < 256 → f x < 256
@@ -87,7 +87,7 @@ zeros-each f p xs k =
     )
 
 zero-mark : (x : ℕ) → x < 256 → zeros 127 128 x ≡ pick (other 0 x) 0 128
-zero-mark x h = eqb-true (zeros 127 128 x) (pick (other 0 x) 0 128) (every (λ (y : ℕ). eqb (zeros 127 128 y) (pick (other 0 y) 0 128)) 256 refl x h)
+zero-mark = equal (zeros 127 128) (λ (x : ℕ). pick (other 0 x) 0 128) 256 refl
 
 -- bytes that do not differ give 0, and no others do
 zero-same : (x b : ℕ) → bitXor x b ≡ 0 → x ≡ b
@@ -106,7 +106,7 @@ abbrev pub others : ℕ → ℕ → ℕ → ℕ → ℕ → ℕ
 others low from past high n = bitAnd (bitOr (bitXor (bitXor (bitAnd n low + from) (bitAnd n low + past)) high) n) high
 
 other-mark : (x : ℕ) → x < 256 → others 127 63 37 128 x ≡ pick (capital x) 0 128
-other-mark x h = eqb-true (others 127 63 37 128 x) (pick (capital x) 0 128) (every (λ (y : ℕ). eqb (others 127 63 37 128 y) (pick (capital y) 0 128)) 256 refl x h)
+other-mark = equal (others 127 63 37 128) (λ (x : ℕ). pick (capital x) 0 128) 256 refl
 
 others-each : (xs : List ℕ) → Bytes xs
     → others (each (λ (x : ℕ). 127) xs) (each (λ (x : ℕ). 63) xs) (each (λ (x : ℕ). 37) xs) (each (λ (x : ℕ). 128) xs) (number xs) ≡ marks capital xs
