@@ -103,7 +103,7 @@ pub fn key_run(line: &[u8]) -> usize
 const NEAR: usize = 256;
 
 // Whether one of the 64 bytes from `at` on is b. The loop has no branch, so that it becomes vector code.
-fn any_of_64(a: &[u8], at: usize, b: u8) -> bool
+pub fn any_of_64(a: &[u8], at: usize, b: u8) -> bool
     requires { ⌜ at + 64 ≤ length (now a) ⌝ }
     ensures { λ r. ⌜ (r ≡ false → run (other b) (drop at (now (a .entry))) ≡ 64 + run (other b) (drop (at + 64) (now (a .entry)))) ⌝ }
 {

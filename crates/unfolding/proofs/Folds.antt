@@ -1,13 +1,13 @@
 -- Laws of the bytes before the first fold. Assumes nothing.
 use mathlib.Core.Path.{_≡_, refl, sym, ap, _∙_}
-use mathlib.Core.Bool.{Bool, true, false, _&&_, and-false, false≢true}
+use mathlib.Core.Bool.{Bool, true, false, not, _&&_, and-false, false≢true}
 use mathlib.Core.List.{List, [], _∷_}
-use Prim.Native.Nat.{ℕ, suc, _+_, _≤_, _<_, zero-le, suc-le-suc}
-use native.Mathlib.Nat.{zero-add, add-zero, not-suc-le-zero, le-of-suc-le-suc}
+use Prim.Native.Nat.{ℕ, zero, suc, _+_, _≤_, _<_, zero-le, suc-le-suc}
+use native.Mathlib.Nat.{zero-add, add-zero, not-suc-le-zero, le-of-suc-le-suc, le-refl}
 use native.Mathlib.Numerals.{add-one}
 use native.Mathlib.Omega.{arith}
 use lib.ListN.{length, getD, drop}
-use lib.Seq.{drop-cons, getD-drop}
+use lib.Seq.{drop-cons, drop-drop, getD-drop}
 use lib.Dec.{eqb}
 use borrow.Author.Tests.{eqb-true}
 use Rattle.octets.specs.Choice.{pick}
@@ -81,15 +81,28 @@ shape (x ∷ y ∷ xs) e = go (eqb x lf) refl e
     go false l b = absurd (false≢true b)
 
 -- no fold stands before the first LF
-pub past-others : (xs : List ℕ) → toFold xs ≡ run (other lf) xs + toFold (drop (run (other lf) xs) xs)
+past-some : (n : ℕ) (xs : List ℕ) → n ≤ run (other lf) xs → toFold xs ≡ n + toFold (drop n xs)
 unfolding toFold run
-past-others [] = refl
-past-others (x ∷ xs) = go (eqb x lf) refl (past-others xs)
+past-some zero xs h = sym (zero-add (toFold xs))
+past-some (suc n) [] h = absurd (not-suc-le-zero h)
+past-some (suc n) (x ∷ xs) h = go (eqb x lf) refl h (past-some n xs)
   where
-    go : (t : Bool) → eqb x lf ≡ t → toFold xs ≡ run (other lf) xs + toFold (drop (run (other lf) xs) xs)
-        → toFold (x ∷ xs) ≡ run (other lf) (x ∷ xs) + toFold (drop (run (other lf) (x ∷ xs)) (x ∷ xs))
-    go true l ih = rw (l, zero-add, l)
-    go false l ih = rw l (omega (arith, ih))
+    go : (t : Bool) → eqb x lf ≡ t → suc n ≤ pick (not t) (suc (run (other lf) xs)) 0 → (n ≤ run (other lf) xs → toFold xs ≡ n + toFold (drop n xs))
+        → toFold (x ∷ xs) ≡ suc n + toFold (drop n xs)
+    go true l h ih = absurd (not-suc-le-zero h)
+    go false l h ih = rw l (omega (arith, ih (le-of-suc-le-suc h)))
+
+pub past-others : (xs : List ℕ) → toFold xs ≡ run (other lf) xs + toFold (drop (run (other lf) xs) xs)
+past-others xs = past-some (run (other lf) xs) xs (le-refl (run (other lf) xs))
+
+pub past-at : (xs : List ℕ) (i n : ℕ) → n ≤ run (other lf) (drop i xs) → toFold (drop i xs) ≡ n + toFold (drop (i + n) xs)
+past-at xs i n h = past-some n (drop i xs) h ∙ ap (λ (ys : List ℕ). n + toFold ys) (drop-drop n i xs)
+
+-- so the first fold from a place on is the first one from the LF on that comes next
+pub to-break : (xs : List ℕ) (i end : ℕ) → end ≡ i + run (other lf) (drop i xs) → i + toFold (drop i xs) ≡ end + toFold (drop end xs)
+to-break xs i end e =
+    let n = run (other lf) (drop i xs) in
+    rw e (omega (arith, past-at xs i n (le-refl n)))
 
 -- the last byte begins none
 pub at-last : (xs : List ℕ) → length xs ≤ 1 → toFold xs ≡ length xs

@@ -19,24 +19,18 @@ fn is_fold(b: u8, behind: u8) -> bool
     (b == b'\n') & ((behind == b' ') | (behind == b'\t'))
 }
 
-// Whether a fold stands at one of the 32 bytes from `at` on. The loops have no branch, so that they become vector code.
-fn any_fold_of_32(feed: &[u8], at: usize) -> bool
-    requires { ⌜ at + 33 ≤ length (now feed) ⌝ }
-    ensures { λ r. ⌜ (r ≡ false → toFold (drop at (now (feed .entry))) ≡ 32 + toFold (drop (at + 32) (now (feed .entry)))) ⌝ }
+// Whether a fold stands at one of the 64 bytes from `at` on. The loop has no branch, so that it becomes vector code.
+fn any_fold_of_64(feed: &[u8], at: usize) -> bool
+    requires { ⌜ at + 65 ≤ length (now feed) ⌝ }
+    ensures { λ r. ⌜ (r ≡ false → toFold (drop at (now (feed .entry))) ≡ 64 + toFold (drop (at + 64) (now (feed .entry)))) ⌝ }
 {
     // Most of a long line holds no LF at all, which takes half as long to see.
-    let mut broken: u8 = 0;
-    let mut k: usize = 0;
-    while k < 32 {
-        broken = broken | (feed[at + k] == b'\n') as u8;
-        k += 1;
-    }
-    if broken == 0 {
+    if !octets::any_of_64(feed, at, b'\n') {
         return false;
     }
     let mut hit: u8 = 0;
     let mut j: usize = 0;
-    while j < 32 {
+    while j < 64 {
         let i = at + j;
         hit = hit | is_fold(feed[i], feed[i + 1]) as u8;
         j += 1;
@@ -44,27 +38,40 @@ fn any_fold_of_32(feed: &[u8], at: usize) -> bool
     hit != 0
 }
 
-// The place of the first fold from `from` on, or the end. Lines that are not folded are passed over in blocks.
+// Passes over blocks that hold no fold: lines that are not folded are many.
+fn skip_blocks(feed: &[u8], from: usize) -> usize
+    requires { ⌜ from ≤ length (now feed) ⌝ }
+    ensures { λ r. ⌜ (r ≤ length (now (feed .entry))) × (r + toFold (drop r (now (feed .entry))) ≡ from + toFold (drop from (now (feed .entry)))) ⌝ }
+{
+    let mut i = from;
+    while i < feed.len() {
+        if feed.len() - i <= 64 {
+            return i;
+        }
+        if any_fold_of_64(feed, i) {
+            return i;
+        }
+        i += 64;
+    }
+    i
+}
+
+// The place of the first fold from `from` on, or the end.
 fn next_fold(feed: &[u8], from: usize) -> usize
     requires { ⌜ from < length (now feed) ⌝ }
     ensures { λ r. ⌜ r ≡ from + toFold (drop from (now (feed .entry))) ⌝ }
 {
     let last = feed.len() - 1;
-    let mut i = octets::find_near(feed, from, b'\n');
+    let mut i = skip_blocks(feed, from);
     while i < last {
-        if last - i < 32 {
-            break;
+        let end = octets::find_near(feed, i, b'\n');
+        if last <= end {
+            return feed.len();
         }
-        if any_fold_of_32(feed, i) {
-            break;
+        if is_fold(feed[end], feed[end + 1]) {
+            return end;
         }
-        i += 32;
-    }
-    while i < last {
-        if is_fold(feed[i], feed[i + 1]) {
-            return i;
-        }
-        i += 1;
+        i = end + 1;
     }
     feed.len()
 }
