@@ -312,43 +312,31 @@ pub fn pass(
         let extent = lines::line_at(text, start);
         at = extent.next;
         let end = start + extent.len;
-        let line = lines::read_line(&text[start..end]);
+        let bytes = &text[start..end];
+        let line = lines::read_line(bytes);
         let depth = open.depth;
         let mut top = NO_ENTRY;
         if depth != 0 {
             let i = depth - 1;
             top = open.entries[i];
         }
-        if let Check::Bad(refusal) = check_line(text, &text[start..end], line, depth, top) {
+        if let Check::Bad(refusal) = check_line(text, bytes, line, depth, top) {
             return Outcome::Refused(refusal, start);
         }
         match line {
             Line::Content(p) => {
-                put_property_line(
-                    &text[start..end],
-                    start,
-                    p,
-                    top.row,
-                    counts,
-                    properties,
-                    parameters,
-                );
+                put_property_line(bytes, start, p, top.row, counts, properties, parameters);
                 counts = counts.with_property(p.parameters);
             }
             Line::Begin(name) => {
                 let entry = entry_of(counts.components, start, name);
-                tables::put_component(
-                    components,
-                    counts.components,
-                    component_row(top.row, depth, entry),
-                );
+                let row = component_row(top.row, depth, entry);
+                tables::put_component(components, counts.components, row);
                 open.entries[depth] = entry;
                 open.depth = depth + 1;
                 counts = counts.with_component();
             }
-            Line::End(_) => {
-                open.depth = depth - 1;
-            }
+            Line::End(_) => open.depth = depth - 1,
             Line::Empty => {}
             Line::BadBegin => {}
             Line::Bad(_) => {}
