@@ -10,7 +10,7 @@ use lib.Dec.{leb}
 use borrow.Author.Tests.{le-leb, lt-leb, leb-true, leb-false}
 use Rattle.octets.specs.Choice.{pick}
 use Rattle.octets.specs.Laid.{laid, laidFrom, most, counted}
-use Rattle.octets.proofs.Writing.{Writing, start, more, end}
+use Rattle.octets.proofs.Writing.{Writing, start, more, end, from-as, at-front}
 use Rattle.folding.specs.Pieces.{brk, broken, joined, Within}
 use Rattle.folding.specs.Strict.{first, later}
 use Rattle.folding.specs.Repository.{white, cut, cuts, piecesOf, repository, repositoryPieces}
@@ -139,10 +139,10 @@ pub record Cutting (old out line : List ℕ) (width at n : ℕ) : Type 0 where
   pub inside : at ≤ length line
   pub wide : 1 < width
   pub narrow : width ≤ first
-  pub writing : Writing old out (repository line) (joined (piecesOf width (drop at line))) n
+  pub writing : Writing 0 old (repository line) out (joined (piecesOf width (drop at line))) n
 
 pub begin : (old line : List ℕ) → Cutting old old line first 0 0
-begin old line = record { inside = omega arith; wide = omega arith; narrow = omega arith; writing = start old (repository line) }
+begin old line = record { inside = omega arith; wide = omega arith; narrow = omega arith; writing = start 0 old (repository line) }
 
 module _ {old out line : List ℕ} {width at n : ℕ} (f : Cutting old out line width at n) where
   all-left : take (length line - at) (drop at line) ≡ drop at line
@@ -158,9 +158,9 @@ module _ {old out line : List ℕ} {width at n : ℕ} (f : Cutting old out line 
 
     -- a piece is cut off, and a break laid behind it
     pub turn : length old ≤ most → {next : List ℕ} {m : ℕ}
-        → m ≡ counted (n + length (take (at + k - at) (drop at line) ++ brk)) → next ≡ laidFrom n (take (at + k - at) (drop at line) ++ brk) out
+        → (m ≡ counted (n + length (take (at + k - at) (drop at line) ++ brk))) × (next ≡ laidFrom n (take (at + k - at) (drop at line) ++ brk) out)
         → Cutting old next line later (at + k) m
-    turn b p q =
+    turn b p =
         let t : first < length (drop at line) = omega (arith, length-drop at line) in
         let w : at + k - at ≡ k = omega arith in
         let i : cut width (drop at line) ≡ k = sym (rw all-left at e) in
@@ -170,13 +170,13 @@ module _ {old out line : List ℕ} {width at n : ℕ} (f : Cutting old out line 
           narrow = omega arith;
           writing = more (f .writing) b (take (at + k - at) (drop at line) ++ brk) (joined (piecesOf later (drop (at + k) line)))
               (join-long width (drop at line) (f .wide) t
-              ∙ rw (i, w, drop-drop k at line) (sym (append-assoc (take k (drop at line)) brk (joined (piecesOf later (drop (at + k) line)))))) p q;
+              ∙ rw (i, w, drop-drop k at line) (sym (append-assoc (take k (drop at line)) brk (joined (piecesOf later (drop (at + k) line)))))) p;
         }
 
   -- the remainder is one piece
   pub finish : length line - at ≤ first → {next : List ℕ} {m : ℕ}
-      → m ≡ counted (n + length (take (length line - at) (drop at line))) → next ≡ laidFrom n (take (length line - at) (drop at line)) out
+      → (m ≡ counted (n + length (take (length line - at) (drop at line)))) × (next ≡ laidFrom n (take (length line - at) (drop at line)) out)
       → (m ≡ counted (length (repository line))) × (next ≡ laid (repository line) old)
-  finish h p q =
-      end (f .writing) (take (length line - at) (drop at line))
-      (all-left ∙ sym (join-short width (drop at line) (omega (arith, length-drop at line)))) p q
+  finish h p =
+      at-front (repository line) old
+      (end (f .writing) (from-as n out (all-left ∙ sym (join-short width (drop at line) (omega (arith, length-drop at line)))) p))

@@ -10,7 +10,7 @@ use lib.Dec.{leb}
 use borrow.Author.Tests.{le-leb}
 use Rattle.octets.specs.Choice.{pick}
 use Rattle.octets.specs.Laid.{laid, laidFrom, most, counted}
-use Rattle.octets.proofs.Writing.{Writing, start, more, end}
+use Rattle.octets.proofs.Writing.{Writing, start, more, end, from-as, at-front}
 use Rattle.octets.specs.Bytes.{space}
 use Rattle.folding.specs.Pieces.{brk, broken, joined, physical, Within}
 use Rattle.folding.specs.Strict.{first, later, units, breakFor, roomFor, foldedUnits, leftAfter, strict, onto, kept, packed, strictPieces, FilledFrom, Filled}
@@ -172,36 +172,36 @@ strict-within line = filled-within (strictPieces line) (strict-fills line)
 
 pub record Folding (old out piece : List ℕ) (left₀ left at n : ℕ) : Type 0 where
   pub inside : at ≤ length piece
-  pub writing : Writing old out (foldedUnits left₀ (units piece)) (foldedUnits left (units (drop at piece))) n
+  pub writing : Writing 0 old (foldedUnits left₀ (units piece)) out (foldedUnits left (units (drop at piece))) n
   pub column : leftAfter left (units (drop at piece)) ≡ leftAfter left₀ (units piece)
 
 pub begin : (old piece : List ℕ) (left : ℕ) → Folding old old piece left left 0 0
-begin old piece left = record { inside = omega arith; writing = start old (foldedUnits left (units piece)); column = refl }
+begin old piece left = record { inside = omega arith; writing = start 0 old (foldedUnits left (units piece)); column = refl }
 
 module _ {old out piece : List ℕ} {left₀ left at n : ℕ} (f : Folding old out piece left₀ left at n) where
   -- a physical line is filled, and a break laid behind it
   pub turn : left < length piece - at → length old ≤ most → {next : List ℕ} {m : ℕ}
-      → m ≡ counted (n + length (take (at + left - at) (drop at piece) ++ brk)) → next ≡ laidFrom n (take (at + left - at) (drop at piece) ++ brk) out
+      → (m ≡ counted (n + length (take (at + left - at) (drop at piece) ++ brk))) × (next ≡ laidFrom n (take (at + left - at) (drop at piece) ++ brk) out)
       → Folding old next piece left₀ later (at + left) m
-  turn h k p q =
+  turn h k p =
       let t : left < length (drop at piece) = omega (arith, length-drop at piece) in
       let d : drop left (drop at piece) ≡ drop (at + left) piece = drop-drop left at piece in
       let w : at + left - at ≡ left = omega arith in
       record {
         inside = omega arith;
         writing = more (f .writing) k (take (at + left - at) (drop at piece) ++ brk) (foldedUnits later (units (drop (at + left) piece)))
-            (fold-fills left (drop at piece) t ∙ rw (w, d) (sym (append-assoc (take left (drop at piece)) brk (foldedUnits later (units (drop (at + left) piece)))))) p q;
+            (fold-fills left (drop at piece) t ∙ rw (w, d) (sym (append-assoc (take left (drop at piece)) brk (foldedUnits later (units (drop (at + left) piece)))))) p;
         column = sym (left-fills left (drop at piece) t ∙ rw d) ∙ f .column;
       }
 
   -- what is left fits
   pub finish : length piece - at ≤ left → {next : List ℕ} {m : ℕ}
-      → m ≡ counted (n + length (take (length piece - at) (drop at piece))) → next ≡ laidFrom n (take (length piece - at) (drop at piece)) out
+      → (m ≡ counted (n + length (take (length piece - at) (drop at piece)))) × (next ≡ laidFrom n (take (length piece - at) (drop at piece)) out)
       → (left - (length piece - at) ≡ leftAfter left₀ (units piece))
       × ((m ≡ counted (length (foldedUnits left₀ (units piece)))) × (next ≡ laid (foldedUnits left₀ (units piece)) old))
-  finish h p q =
+  finish h p =
       let l : length (drop at piece) ≡ length piece - at = length-drop at piece in (
         sym (left-fits left (drop at piece) (omega arith) ∙ rw l) ∙ f .column,
-        end (f .writing) (take (length piece - at) (drop at piece))
-            (take-all (length piece - at) (drop at piece) (omega arith) ∙ sym (fold-fits left (drop at piece) (omega arith))) p q,
+        at-front (foldedUnits left₀ (units piece)) old
+            (end (f .writing) (from-as n out (take-all (length piece - at) (drop at piece) (omega arith) ∙ sym (fold-fits left (drop at piece) (omega arith))) p)),
       )

@@ -1,3 +1,2 @@
-pub mod Onward
 pub mod Laws
 pub mod Rooms

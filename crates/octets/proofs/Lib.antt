@@ -1,6 +1,5 @@
 pub mod Lists
 pub mod Laid
-pub mod Laying
 pub mod Writing
 pub mod Runs
 pub mod Hits

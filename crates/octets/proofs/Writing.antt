@@ -5,13 +5,13 @@ use mathlib.Core.List.{List, [], _∷_, _++_, append-nil, append-assoc}
 use Prim.Native.Nat.{ℕ, _+_, _-_, _≤_, min}
 use native.Mathlib.Nat.{min-eq-left, min-eq-right, le-of-lt}
 use native.Mathlib.Omega.{arith}
-use lib.ListN.{length, take, drop, drop-of-length-le, length-append, length-take, length-drop}
+use lib.ListN.{length, take, drop, drop-of-length-le, length-append, length-take, length-drop, take-append-drop}
 use lib.Seq.{take-all, take-append-add, drop-append-add, length-take-le}
 use lib.Dec.{leb}
 use borrow.Author.Tests.{leb-true, leb-false}
 use Rattle.octets.specs.Laid.{laid, laidFrom, most, counted}
 use Rattle.octets.proofs.Lists.{lent}
-use Rattle.octets.proofs.Laid.{length-laid, then}
+use Rattle.octets.proofs.Laid.{length-laid, nothing, then}
 
 -- past the end of the buffer nothing is laid
 past : (at : ℕ) (xs old : List ℕ) → length old ≤ at → laidFrom at xs old ≡ old
@@ -62,19 +62,20 @@ pub lent-back : (at : ℕ) (xs old : List ℕ) {ys : List ℕ} → ys ≡ laid x
 lent-back at xs old {ys} e =
     rw (e, lent old at, drop-of-length-le (drop at old) {i = length old - at} (omega (arith, length-drop at old)), append-nil)
 
--- of `all`, which is to lie over `old`, `rest` is to come, from `at` on
-pub record Writing (old out all rest : List ℕ) (at : ℕ) : Type 0 where
-  pub lies : laidFrom at rest out ≡ laid all old
-  pub count : counted (at + length rest) ≡ counted (length all)
+-- of `all`, which is to lie over `old` from `from` on, `rest` is to come, from `at` on
+pub record Writing (from : ℕ) (old all out rest : List ℕ) (at : ℕ) : Type 0 where
+  pub lies : laidFrom at rest out ≡ laidFrom from all old
+  pub count : counted (at + length rest) ≡ counted (from + length all)
   pub same : length out ≡ length old
 
-pub start : (old all : List ℕ) → Writing old old all all 0
-start old all = record { lies = refl; count = ap counted (omega arith); same = refl }
+pub start : (from : ℕ) (old all : List ℕ) → Writing from old all old all from
+start from old all = record { lies = refl; count = refl; same = refl }
 
-pub more : {old out all rest : List ℕ} {at : ℕ} → Writing old out all rest at → length old ≤ most
-    → (xs new : List ℕ) → rest ≡ xs ++ new → {next : List ℕ} {n : ℕ} → n ≡ counted (at + length xs) → next ≡ laidFrom at xs out
-    → Writing old next all new n
-more {old} {out} {all} {rest} {at} l h xs new e {next} {n} p q =
+-- xs is laid, the next part
+pub more : {from : ℕ} {old all out rest : List ℕ} {at : ℕ} → Writing from old all out rest at → length old ≤ most
+    → (xs new : List ℕ) → rest ≡ xs ++ new → {next : List ℕ} {n : ℕ} → (n ≡ counted (at + length xs)) × (next ≡ laidFrom at xs out)
+    → Writing from old all next new n
+more {from} {old} {all} {out} {rest} {at} l h xs new e {next} {n} (p, q) =
     let b = both at xs new out (omega (arith, l .same)) p q refl refl in
     record {
       lies = b .1 ∙ (rw e at (l .lies));
@@ -82,8 +83,29 @@ more {old} {out} {all} {rest} {at} l h xs new e {next} {n} p q =
       same = rw q (length-from at xs out ∙ l .same);
     }
 
--- the last write
-pub end : {old out all rest : List ℕ} {at : ℕ} → Writing old out all rest at
-    → (xs : List ℕ) → xs ≡ rest → {next : List ℕ} {n : ℕ} → n ≡ counted (at + length xs) → next ≡ laidFrom at xs out
-    → (n ≡ counted (length all)) × (next ≡ laid all old)
-end {old} {out} {all} {rest} {at} l xs e p q = ((rw e at p) ∙ l .count, (rw e at q) ∙ l .lies)
+-- the last part
+pub end : {from : ℕ} {old all out rest : List ℕ} {at : ℕ} → Writing from old all out rest at
+    → {next : List ℕ} {n : ℕ} → (n ≡ counted (at + length rest)) × (next ≡ laidFrom at rest out)
+    → (n ≡ counted (from + length all)) × (next ≡ laidFrom from all old)
+end l (p, q) = (p ∙ l .count, q ∙ l .lies)
+
+-- the same of equal bytes
+pub from-as : (at : ℕ) (old : List ℕ) {xs ys new : List ℕ} {n : ℕ} → xs ≡ ys
+    → (n ≡ counted (at + length xs)) × (new ≡ laidFrom at xs old) → (n ≡ counted (at + length ys)) × (new ≡ laidFrom at ys old)
+from-as at old e (p, q) = (p ∙ ap (λ (k : List ℕ). counted (at + length k)) e, q ∙ ap (λ (k : List ℕ). laidFrom at k old) e)
+
+pub laid-as : (old : List ℕ) {xs ys new : List ℕ} {n : ℕ} → xs ≡ ys
+    → (n ≡ counted (length xs)) × (new ≡ laid xs old) → (n ≡ counted (length ys)) × (new ≡ laid ys old)
+laid-as old e (p, q) = (p ∙ ap (λ (k : List ℕ). counted (length k)) e, q ∙ ap (λ (k : List ℕ). laid k old) e)
+
+-- from the front on
+pub at-front : (xs old : List ℕ) {new : List ℕ} {n : ℕ}
+    → (n ≡ counted (0 + length xs)) × (new ≡ laidFrom 0 xs old) → (n ≡ counted (length xs)) × (new ≡ laid xs old)
+at-front xs old (p, q) = (p ∙ ap counted (omega arith), q)
+
+-- nothing is laid
+pub stays : (at : ℕ) (old : List ℕ) → at ≤ most → (at ≡ counted (at + length {A = ℕ} [])) × (old ≡ laidFrom at [] old)
+stays at old h = (
+  sym (ap counted (omega arith) ∙ min-eq-left h),
+  sym (rw (nothing (drop at old)) (take-append-drop at old)),
+)

@@ -107,9 +107,7 @@ pub fn unfold_into(feed: &[u8], text: &mut [u8]) -> usize
     while i < feed.len() {
         let piece = piece_at(feed, i);
         let end = piece.end;
-        let at = octets::least(n, text.len());
-        octets::put(&feed[i..end], &mut text[at..]);
-        n += end - i;
+        n = octets::lay(&feed[i..end], text, n);
         i = piece.next;
     }
     n

@@ -47,7 +47,7 @@ loop-less c = omega arith
 loop-again : tie.Need-loop-again Inv-loop μ-loop
 loop-again c =
     turn (c .before .before .before .before .before .before .loop .inv) (c .before .before .before .before .before .loop-test .taken) (omega arith)
-    (c .before .before .lay-line .ensures .0) (c .before .before .lay-line .ensures .1)
+    (c .before .before .lay-line .ensures)
 
 sub-lay : tie.Need-sub-lay Inv-loop μ-loop
 sub-lay c = omega arith
@@ -76,7 +76,7 @@ same-length c = search needs
 returns : tie.Need-returns Inv-loop μ-loop
 returns c =
     let e = finish (c .before .before .before .before .before .before .before .loop .inv) (c .before .before .before .before .before .before .loop-test .left)
-    (c .before .before .before .lay .ensures .0) (c .before .before .before .lay .ensures .1) in
+    (c .before .before .before .lay .ensures) in
     (same (c .new .ensures ∙ e .0) (e .1 .0), e .1 .1)
 
 pub fold-piece-spec : {M : Type 1} → statement M

@@ -52,7 +52,7 @@ loop-less c = omega (arith, some (c .before .before .before .before .before .bef
 loop-again : tie.Need-loop-again Inv-loop μ-loop
 loop-again c =
     turn (c .before .before .before .before .before .before .before .before .loop .inv) (c .before .before .before .before .before .before .before .loop-test .taken) (c .before .before .before .before .before .cut-at .ensures) (omega arith)
-    (c .before .before .lay-line .ensures .0) (c .before .before .lay-line .ensures .1)
+    (c .before .before .lay-line .ensures)
 
 sub-lay : tie.Need-sub-lay Inv-loop μ-loop
 sub-lay c = omega arith
@@ -70,7 +70,7 @@ same-length : tie.Need-same-length Inv-loop μ-loop
 same-length c = search needs
 
 returns : tie.Need-returns Inv-loop μ-loop
-returns c = finish (c .before .before .before .before .before .before .loop .inv) (c .before .before .before .before .before .loop-test .left) (c .before .before .lay .ensures .0) (c .before .before .lay .ensures .1)
+returns c = finish (c .before .before .before .before .before .before .loop .inv) (c .before .before .before .before .before .loop-test .left) (c .before .before .lay .ensures)
 
 pub fold-repository-spec : {M : Type 1} → statement M
 fold-repository-spec =

@@ -5,7 +5,7 @@ use mathlib.Core.List.{[], _∷_}
 use native.Mathlib.Omega.{arith}
 use Prim.Native.Nat.{_-_, _/_}
 use native.Mathlib.Nat.{pos-of-ne-zero}
-use Rattle.listing.proofs.Onward.{start, more, end, from-as, stays}
+use Rattle.octets.proofs.Writing.{start, more, end, from-as, stays}
 use Rattle.listing.specs.Texts.{digit, digits}
 use Rattle.listing.proofs.Laws.{no-digits, one-digit, more-digits}
 use Prim.Native.Nat.{ℕ, _<_}

@@ -2,7 +2,7 @@
 use mathlib.Core.Path.{refl}
 use mathlib.Core.List.{[], _∷_}
 use native.Mathlib.Omega.{arith}
-use Rattle.listing.proofs.Onward.{start, more, end}
+use Rattle.octets.proofs.Writing.{start, more, end}
 use Rattle.listing.specs.Texts.{field}
 use borrow.Author.Needs.{needs}
 use Rattle.listing.proofs.lay_field.Statement.{statement}

@@ -2,7 +2,7 @@
 use mathlib.Core.Path.{refl}
 use mathlib.Core.List.{_++_}
 use native.Mathlib.Omega.{arith}
-use Rattle.listing.proofs.Onward.{start, more, end, laid-as, at-front}
+use Rattle.octets.proofs.Writing.{start, more, end, laid-as, at-front}
 use Rattle.listing.specs.Lines.{sectionText}
 use Rattle.listing.proofs.Laws.{a-refusal, sections}
 use Rattle.listing.specs.declared.Section.the-variants.{Components, Properties, Parameters}

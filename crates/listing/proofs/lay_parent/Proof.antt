@@ -1,5 +1,5 @@
 -- `listing::lay_parent`: a dash, or the number of the row.
-use Rattle.listing.proofs.Onward.{from-as}
+use Rattle.octets.proofs.Writing.{from-as}
 use Rattle.listing.proofs.Laws.{no-parent, a-parent}
 use borrow.Author.Needs.{needs}
 use Rattle.listing.proofs.lay_parent.Statement.{statement}

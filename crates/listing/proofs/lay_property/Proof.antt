@@ -2,7 +2,7 @@
 use mathlib.Core.Path.{refl, ap}
 use mathlib.Core.List.{List, _++_}
 use native.Mathlib.Omega.{arith}
-use Rattle.listing.proofs.Onward.{start, more, end, from-as}
+use Rattle.octets.proofs.Writing.{start, more, end, from-as}
 use Rattle.listing.specs.Texts.{field, decimal}
 use Rattle.listing.specs.Lines.{propertyLine}
 use Rattle.octets.specs.Views.{viewed}

@@ -2,7 +2,7 @@
 use mathlib.Core.Path.{refl}
 use mathlib.Core.List.{[], _∷_, _++_}
 use native.Mathlib.Omega.{arith}
-use Rattle.listing.proofs.Onward.{start, more, end, at-front}
+use Rattle.octets.proofs.Writing.{start, more, end, at-front}
 use Rattle.listing.specs.Texts.{field, decimal}
 use Rattle.listing.specs.Lines.{refused}
 use Rattle.octets.specs.Bytes.{space, lf}

@@ -1,6 +1,6 @@
 -- `listing::lay_row`: by the section.
 use mathlib.Core.Path.{ap}
-use Rattle.listing.proofs.Onward.{from-as}
+use Rattle.octets.proofs.Writing.{from-as}
 use Rattle.listing.specs.Lines.{componentLine, propertyLine, parameterLine}
 use borrow.Author.Needs.{needs}
 use Rattle.listing.proofs.lay_row.Statement.{statement}

@@ -1,19 +1,18 @@
 -- `listing::lay_rows`: the lines so far, and those to come.
 use mathlib.Core.Path.{_≡_}
 use native.Mathlib.Omega.{arith}
-use Rattle.listing.proofs.Onward.{start, more, end, stays}
+use Rattle.octets.proofs.Writing.{Writing, start, more, end, stays}
 use Rattle.listing.specs.Lines.{rowLine, linesFrom}
 use Prim.Native.Nat.{_+_, _-_, _≤_}
 use native.Mathlib.Nat.{lt-of-lt-of-le}
 use Rattle.octets.specs.Laid.{most}
-use Rattle.listing.proofs.Onward.{Onward}
 use Rattle.listing.proofs.Laws.{next-line, no-lines}
 use Rattle.listing.proofs.lay_rows.Statement.{statement}
 use Rattle.listing.proofs.lay_rows.Tie as tie
 
 abbrev Inv-loop : tie.InvT-loop
 Inv-loop which text table count out₀ at to₀ row₀ out to row =
-    (row ≤ count) × ((to ≤ most) × Onward at out₀ (linesFrom (rowLine which text table) 0 count) out (linesFrom (rowLine which text table) row (count - row)) to)
+    (row ≤ count) × ((to ≤ most) × Writing at out₀ (linesFrom (rowLine which text table) 0 count) out (linesFrom (rowLine which text table) row (count - row)) to)
 
 abbrev μ-loop : tie.MeasureT-loop
 μ-loop which text table count out₀ at to₀ row₀ out to row = count - row

@@ -1,7 +1,7 @@
 -- `listing::list`: too long a feed, or what its reading left.
 use lib.ListN.{length}
 use borrow.Author.Tests.{le-leb, lt-leb}
-use Rattle.listing.proofs.Onward.{laid-as}
+use Rattle.octets.proofs.Writing.{laid-as}
 use Rattle.listing.proofs.Laws.{too-long, read}
 use Rattle.listing.proofs.Rooms.{has-rows}
 use Rattle.listing.specs.Listing.{longestListed}

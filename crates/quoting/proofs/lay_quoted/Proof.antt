@@ -5,7 +5,7 @@ use mathlib.Core.List.{[], _∷_, _++_}
 use borrow.Author.Tests.{not-true, not-false}
 use native.Mathlib.Omega.{arith}
 use Rattle.octets.specs.Bytes.{quote}
-use Rattle.octets.proofs.Writing.{start, more, end}
+use Rattle.octets.proofs.Writing.{start, more, end, from-as, at-front}
 use Rattle.quoting.specs.Quoting.{quoted}
 use Rattle.quoting.proofs.Laws.{stays, in-quotes}
 use Rattle.quoting.proofs.lay_quoted.Statement.{statement}
@@ -25,7 +25,7 @@ returns c =
     let s = c .before .before .before .before .before .before .before .before in
     let value = s .args .value .now in
     let e = stays value (sym (c .before .before .before .before .before .wraps .ensures) ∙ not-true _ (c .before .before .before .before .if1 .taken)) in
-    end (start (s .args .out .now) (quoted value)) value e (c .before .before .lay .ensures .0) (c .before .before .lay .ensures .1)
+    at-front (quoted value) (s .args .out .now) (from-as 0 (s .args .out .now) e (c .before .before .lay .ensures))
 
 slice-aggregate-lay : tie.Need-slice-aggregate-lay
 slice-aggregate-lay c = search needs
@@ -50,9 +50,9 @@ returns-2 c =
     let s = c .before .before .before .before .before .before .before .before .before .before .before .before .before .before .before .before .before .before in
     let value = s .args .value .now in
     let e = in-quotes value (sym (c .before .before .before .before .before .before .before .before .before .before .before .before .before .before .before .wraps .ensures) ∙ not-false _ (c .before .before .before .before .before .before .before .before .before .before .before .before .before .before .if1 .left)) in
-    let a = more (start (s .args .out .now) (quoted value)) (omega arith) (quote ∷ []) (value ++ (quote ∷ [])) e (c .before .before .before .before .before .before .before .before .before .before .before .lay2 .ensures .0) (c .before .before .before .before .before .before .before .before .before .before .before .lay2 .ensures .1) in
-    let b = more a (omega arith) value (quote ∷ []) refl (c .before .before .before .before .before .before .before .lay3 .ensures .0) (c .before .before .before .before .before .before .before .lay3 .ensures .1) in
-    end b (quote ∷ []) refl (c .before .before .lay4 .ensures .0) (c .before .before .lay4 .ensures .1)
+    let a = more (start 0 (s .args .out .now) (quoted value)) (omega arith) (quote ∷ []) (value ++ (quote ∷ [])) e (c .before .before .before .before .before .before .before .before .before .before .before .lay2 .ensures) in
+    let b = more a (omega arith) value (quote ∷ []) refl (c .before .before .before .before .before .before .before .lay3 .ensures) in
+    at-front (quoted value) (s .args .out .now) (end b (c .before .before .lay4 .ensures))
 
 pub lay-quoted-spec : {M : Type 1} → statement M
 lay-quoted-spec =
