@@ -132,6 +132,10 @@ pub wider-at : (narrow wide : ℕ → Bool) → ((x : ℕ) → narrow x ≡ true
     → (xs : List ℕ) (i n : ℕ) → n ≤ run narrow (drop i xs) → n + run wide (drop (i + n) xs) ≡ run wide (drop i xs)
 wider-at narrow wide sub xs i n h = ap (λ (ys : List ℕ). n + run wide ys) (sym (drop-drop n i xs)) ∙ wider narrow wide sub n (drop i xs) h
 
+-- and so is a part of the run itself
+pub passed : (class : ℕ → Bool) (xs : List ℕ) (i n : ℕ) → n ≤ run class (drop i xs) → n + run class (drop (i + n) xs) ≡ run class (drop i xs)
+passed class = wider-at class class (λ (x : ℕ) e. e)
+
 -- a test that goes on over a list, joined to what was found before it
 pub onward : (so t u : Bool) {v : Bool} → v ≡ t && u → (so && t) && u ≡ so && v
 onward true t u e = sym e

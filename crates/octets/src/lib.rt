@@ -3,6 +3,7 @@ ghost use mathlib.Core.Path.{_≡_};
 ghost use mathlib.Core.Bool.{Bool, true, false};
 ghost use Prim.Native.Nat.{_+_, _≤_, min};
 ghost use lib.ListN.{length, getD, drop};
+ghost use lib.Dec.{ltb};
 ghost use Rattle.octets.specs.Bytes.{keyByte, lowered, other};
 ghost use Rattle.octets.specs.Laid.{laid, laidFrom, counted};
 ghost use Rattle.octets.specs.Answers.{roomAnswer};
@@ -105,7 +106,7 @@ const NEAR: usize = 256;
 // Whether one of the 64 bytes from `at` on is b. The loop has no branch, so that it becomes vector code.
 pub fn any_of_64(a: &[u8], at: usize, b: u8) -> bool
     requires { ⌜ at + 64 ≤ length (now a) ⌝ }
-    ensures { λ r. ⌜ (r ≡ false → run (other b) (drop at (now (a .entry))) ≡ 64 + run (other b) (drop (at + 64) (now (a .entry)))) ⌝ }
+    ensures { λ r. ⌜ r ≡ ltb (run (other b) (drop at (now (a .entry)))) 64 ⌝ }
 {
     let mut hit: u8 = 0;
     let mut j: usize = 0;

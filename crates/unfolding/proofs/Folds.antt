@@ -3,7 +3,7 @@ use mathlib.Core.Path.{_≡_, refl, sym, ap, _∙_}
 use mathlib.Core.Bool.{Bool, true, false, not, _&&_, and-false, false≢true}
 use mathlib.Core.List.{List, [], _∷_}
 use Prim.Native.Nat.{ℕ, zero, suc, _+_, _≤_, _<_, zero-le, suc-le-suc}
-use native.Mathlib.Nat.{zero-add, add-zero, not-suc-le-zero, le-of-suc-le-suc, le-refl}
+use native.Mathlib.Nat.{zero-add, add-zero, not-suc-le-zero, le-of-suc-le-suc}
 use native.Mathlib.Numerals.{add-one}
 use native.Mathlib.Omega.{arith}
 use lib.ListN.{length, getD, drop}
@@ -80,29 +80,30 @@ shape (x ∷ y ∷ xs) e = go (eqb x lf) refl e
     go true l b = (y, (ap (λ (z : ℕ). z ∷ y ∷ xs) (eqb-true x lf l), b))
     go false l b = absurd (false≢true b)
 
+-- what stands before the first fold is passed over
+part : (n : ℕ) (xs : List ℕ) → n ≤ toFold xs → n + toFold (drop n xs) ≡ toFold xs
+unfolding toFold
+part zero xs h = zero-add (toFold xs)
+part (suc n) [] h = absurd (none n h)
+part (suc n) (x ∷ xs) h = let w = ahead n x xs h in rw (w .0) (omega (arith, part n xs (w .1)))
+
+pub passed : (xs : List ℕ) (i n : ℕ) → n ≤ toFold (drop i xs) → n + toFold (drop (i + n) xs) ≡ toFold (drop i xs)
+passed xs i n h = ap (λ (ys : List ℕ). n + toFold ys) (sym (drop-drop n i xs)) ∙ part n (drop i xs) h
+
 -- no fold stands before the first LF
-past-some : (n : ℕ) (xs : List ℕ) → n ≤ run (other lf) xs → toFold xs ≡ n + toFold (drop n xs)
+pub before-break : (xs : List ℕ) → run (other lf) xs ≤ toFold xs
 unfolding toFold run
-past-some zero xs h = sym (zero-add (toFold xs))
-past-some (suc n) [] h = absurd (not-suc-le-zero h)
-past-some (suc n) (x ∷ xs) h = go (eqb x lf) refl h (past-some n xs)
+before-break [] = zero-le
+before-break (x ∷ xs) = go (eqb x lf) refl (before-break xs)
   where
-    go : (t : Bool) → eqb x lf ≡ t → suc n ≤ pick (not t) (suc (run (other lf) xs)) 0 → (n ≤ run (other lf) xs → toFold xs ≡ n + toFold (drop n xs))
-        → toFold (x ∷ xs) ≡ suc n + toFold (drop n xs)
-    go true l h ih = absurd (not-suc-le-zero h)
-    go false l h ih = rw l (omega (arith, ih (le-of-suc-le-suc h)))
-
-pub past-others : (xs : List ℕ) → toFold xs ≡ run (other lf) xs + toFold (drop (run (other lf) xs) xs)
-past-others xs = past-some (run (other lf) xs) xs (le-refl (run (other lf) xs))
-
-pub past-at : (xs : List ℕ) (i n : ℕ) → n ≤ run (other lf) (drop i xs) → toFold (drop i xs) ≡ n + toFold (drop (i + n) xs)
-past-at xs i n h = past-some n (drop i xs) h ∙ ap (λ (ys : List ℕ). n + toFold ys) (drop-drop n i xs)
+    go : (t : Bool) → eqb x lf ≡ t → run (other lf) xs ≤ toFold xs → pick (not t) (suc (run (other lf) xs)) 0 ≤ toFold (x ∷ xs)
+    go true l ih = zero-le
+    go false l ih = rw l (suc-le-suc ih)
 
 -- so the first fold from a place on is the first one from the LF on that comes next
 pub to-break : (xs : List ℕ) (i end : ℕ) → end ≡ i + run (other lf) (drop i xs) → i + toFold (drop i xs) ≡ end + toFold (drop end xs)
 to-break xs i end e =
-    let n = run (other lf) (drop i xs) in
-    rw e (omega (arith, past-at xs i n (le-refl n)))
+    rw e (omega (arith, passed xs i (run (other lf) (drop i xs)) (before-break (drop i xs))))
 
 -- the last byte begins none
 pub at-last : (xs : List ℕ) → length xs ≤ 1 → toFold xs ≡ length xs

@@ -13,7 +13,7 @@ use Rattle.octets.specs.Runs.{run}
 use Rattle.unfolding.specs.Unfold.{goes, keep, unfolded, unfoldedAfter}
 use Rattle.unfolding.specs.Folds.{toFold}
 use Rattle.unfolding.proofs.Blanks.{blank-no-lf}
-use Rattle.unfolding.proofs.Folds.{breaks, ahead, none, past-others}
+use Rattle.unfolding.proofs.Folds.{breaks, ahead, none, before-break}
 
 -- ---- a turn, and lengths
 
@@ -131,7 +131,7 @@ Unbroken xs = run (other lf) xs ≡ length xs
 pub unbroken : (xs : List ℕ) → Unbroken xs → unfolded xs ≡ xs
 unbroken xs w =
     let d : drop (length xs) xs ≡ [] = drop-of-length-le xs {i = length xs} (omega arith) in
-    stays (length xs) xs (omega (arith, past-others xs)) (rw d (and-false (eqb (lastOf 0 (take (length xs) xs)) cr)))
+    stays (length xs) xs (omega (arith, before-break xs)) (rw d (and-false (eqb (lastOf 0 (take (length xs) xs)) cr)))
     ∙ rw (d, nothing 0, append-nil, take-all (length xs) xs (omega arith))
 
 -- a fold: a piece of a line, then CR LF and a blank, then the rest of the line, folded or not

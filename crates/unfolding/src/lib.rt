@@ -1,8 +1,8 @@
 // Unfolding of the lines of a calendar feed (RFC 5545, section 3.1), over the bytes as they came.
 ghost use mathlib.Core.Path.{_≡_};
-ghost use mathlib.Core.Bool.{false};
 ghost use Prim.Native.Nat.{_+_, _≤_, _<_};
 ghost use lib.ListN.{length, drop};
+ghost use lib.Dec.{ltb};
 ghost use Rattle.unfolding.specs.Folds.{isFold, toFold};
 ghost use Rattle.unfolding.specs.Parts.{Stays, Unfolding};
 
@@ -22,7 +22,7 @@ fn is_fold(b: u8, behind: u8) -> bool
 // Whether a fold stands at one of the 64 bytes from `at` on. The loop has no branch, so that it becomes vector code.
 fn any_fold_of_64(feed: &[u8], at: usize) -> bool
     requires { ⌜ at + 65 ≤ length (now feed) ⌝ }
-    ensures { λ r. ⌜ (r ≡ false → toFold (drop at (now (feed .entry))) ≡ 64 + toFold (drop (at + 64) (now (feed .entry)))) ⌝ }
+    ensures { λ r. ⌜ r ≡ ltb (toFold (drop at (now (feed .entry)))) 64 ⌝ }
 {
     // Most of a long line holds no LF at all, which takes half as long to see.
     if !octets::any_of_64(feed, at, b'\n') {

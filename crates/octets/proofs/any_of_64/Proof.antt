@@ -1,27 +1,41 @@
--- `octets::any_of_64`: where no byte of the block is b, the run of other bytes goes on behind it.
+-- `octets::any_of_64`: the run of other bytes ends inside the block, or not.
 use Prim.Native.Nat.{ℕ, _≤_, _<_, _+_, _-_}
-use mathlib.Core.Path.{_≡_, ap}
-use mathlib.Core.Bool.{false, not}
-use native.Mathlib.Nat.{zero-add, add-zero, add-assoc}
+use mathlib.Core.Path.{_≡_, refl, sym, ap, _∙_}
+use mathlib.Core.Bool.{Bool, true, false, not}
+use mathlib.Core.List.{List}
 use native.Mathlib.Omega.{arith}
+use mir.Val.{boolByte}
+use lib.Bits.{bitOr}
 use lib.ListN.{length, getD, drop}
-use lib.Dec.{eqb}
-use borrow.Author.Tests.{eqb-true, not-false}
+use lib.Dec.{eqb, ltb}
+use borrow.Author.Tests.{lt-ltb, le-ltb}
 use Rattle.octets.specs.Bytes.{other}
 use Rattle.octets.specs.Runs.{run}
-use Rattle.octets.proofs.Runs.{on}
-use Rattle.octets.proofs.Hits.{neither}
+use Rattle.octets.proofs.Runs.{on, stop, passed}
+use Rattle.octets.proofs.Hits.{onward, told}
 use Rattle.octets.proofs.any_of_64.Statement.{statement}
 use Rattle.octets.proofs.any_of_64.Tie as tie
 
+-- a run that goes as far as j ends there exactly where b stands
+ends : (a : List ℕ) (at j b : ℕ) → at + j < length a → j ≤ run (other b) (drop at a)
+    → eqb (getD a (at + j) 0) b ≡ ltb (run (other b) (drop at a)) (j + 1)
+ends a at j b h k = go (eqb (getD a (at + j) 0) b) refl
+  where
+    r : j + run (other b) (drop (at + j) a) ≡ run (other b) (drop at a)
+    r = passed (other b) a at j k
+
+    go : (t : Bool) → eqb (getD a (at + j) 0) b ≡ t → t ≡ ltb (run (other b) (drop at a)) (j + 1)
+    go true e = sym (lt-ltb (run (other b) (drop at a)) (j + 1) (omega (arith, r, stop (other b) a (at + j) h (ap not e))))
+    go false e = sym (le-ltb (run (other b) (drop at a)) (j + 1) (omega (arith, r, on (other b) a (at + j) h (ap not e))))
+
 abbrev Inv-loop : tie.InvT-loop
-Inv-loop a at b hit₀ j₀ hit j = (j ≤ 64) × (hit ≡ 0 → run (other b) (drop at a) ≡ j + run (other b) (drop (at + j) a))
+Inv-loop a at b hit₀ j₀ hit j = (j ≤ 64) × (hit ≡ boolByte (ltb (run (other b) (drop at a)) j))
 
 abbrev μ-loop : tie.MeasureT-loop
 μ-loop a at b hit₀ j₀ hit j = 64 - j
 
 loop-holds : tie.Need-loop-holds Inv-loop μ-loop
-loop-holds c = (omega arith, λ e. rw (zero-add, add-zero))
+loop-holds c = (omega arith, sym (ap boolByte (le-ltb (run (other (c .args .b)) (drop (c .args .at) (c .args .a .now))) 0 (omega arith))))
 
 add-hit : tie.Need-add-hit Inv-loop μ-loop
 add-hit c = omega arith
@@ -41,14 +55,13 @@ loop-less c = omega arith
 loop-again : tie.Need-loop-again Inv-loop μ-loop
 loop-again c =
     let l = c .before .before in
-    let s = l .before .args in (
-      omega arith,
-      λ e. let p = neither (l .loop .hit) (eqb (getD (s .a .now) (s .at + l .loop .j) 0) (s .b)) e in
-          omega (arith, l .loop .inv .1 (p .0), rw add-assoc at (on (other (s .b)) (s .a .now) (s .at + l .loop .j) (omega arith) (ap not (p .1)))),
-    )
+    let s = l .before .args in let n = run (other (s .b)) (drop (s .at) (s .a .now)) in let t = eqb (getD (s .a .now) (s .at + l .loop .j) 0) (s .b) in
+    (omega arith, ap (λ (h : ℕ). bitOr h (boolByte t)) (l .loop .inv .1) ∙ onward n (l .loop .j) t (ends (s .a .now) (s .at) (l .loop .j) (s .b) (omega arith)))
 
 returns : tie.Need-returns Inv-loop μ-loop
-returns c = λ e. let h : c .before .loop .j ≡ 64 = omega arith in rw h at (c .before .loop .inv .1 (eqb-true (c .before .loop .hit) 0 (not-false _ e)))
+returns c = let l = c .before .loop in let s = c .before .before .args in
+    let h : l .j ≡ 64 = omega arith in
+    ap (λ (n : ℕ). not (eqb n 0)) (rw h at (l .inv .1)) ∙ told (ltb (run (other (s .b)) (drop (s .at) (s .a .now))) 64)
 
 pub any-of-64-spec : {M : Type 1} → statement M
 any-of-64-spec =

@@ -4,8 +4,8 @@ use lib.ListN.{length, getD, drop}
 use Rattle.octets.specs.Bytes.{other}
 use Rattle.octets.specs.Runs.{run}
 use mathlib.Core.Bool.{not}
-use borrow.Author.Tests.{eq-eqb, ne-eqb}
-use Rattle.octets.proofs.Runs.{on, stop, ended}
+use borrow.Author.Tests.{eq-eqb, ne-eqb, ltb-false}
+use Rattle.octets.proofs.Runs.{on, stop, ended, passed}
 use native.Mathlib.Omega.{arith}
 use Rattle.octets.proofs.find_byte.Statement.{statement}
 use Rattle.octets.proofs.find_byte.Tie as tie
@@ -38,8 +38,9 @@ loop-less : tie.Need-loop-less Inv-loop μ-loop Inv-loop2 μ-loop2
 loop-less c = omega arith
 
 loop-again : tie.Need-loop-again Inv-loop μ-loop Inv-loop2 μ-loop2
-loop-again c = let s = c .before .before .before .before .before .before .args in
-    omega (arith, c .before .any-of-64 .ensures (c .if2 .left))
+loop-again c = let s = c .before .before .before .before .before .before .args in let i = c .before .before .before .before .loop .i in
+    let far : 64 ≤ run (other (s .b)) (drop i (s .a .now)) = ltb-false _ 64 (sym (c .before .any-of-64 .ensures) ∙ c .if2 .left) in
+    omega (arith, passed (other (s .b)) (s .a .now) i 64 far)
 
 loop2-holds : tie.Need-loop2-holds Inv-loop μ-loop Inv-loop2 μ-loop2
 loop2-holds c = c .before .loop .inv

@@ -1,9 +1,11 @@
 -- `skip_blocks`: what was passed holds no fold.
-use mathlib.Core.Path.{_≡_, refl}
+use mathlib.Core.Path.{_≡_, refl, sym, _∙_}
 use Prim.Native.Nat.{_≤_, _+_, _-_}
 use native.Mathlib.Omega.{arith}
 use lib.ListN.{length, drop}
+use borrow.Author.Tests.{ltb-false}
 use Rattle.unfolding.specs.Folds.{toFold}
+use Rattle.unfolding.proofs.Folds.{passed}
 use Rattle.unfolding.proofs.skip_blocks.Statement.{statement}
 use Rattle.unfolding.proofs.skip_blocks.Tie as tie
 
@@ -35,7 +37,9 @@ loop-less : tie.Need-loop-less Inv-loop μ-loop
 loop-less c = omega arith
 
 loop-again : tie.Need-loop-again Inv-loop μ-loop
-loop-again c = (omega arith, omega (arith, c .before .any-fold-of-64 .ensures (c .if2 .left)))
+loop-again c = let feed = c .before .before .before .before .before .before .args .feed .now in let i = c .before .before .before .before .loop .i in
+    let far : 64 ≤ toFold (drop i feed) = ltb-false (toFold (drop i feed)) 64 (sym (c .before .any-fold-of-64 .ensures) ∙ c .if2 .left) in
+    (omega arith, omega (arith, passed feed i 64 far))
 
 returns-3 : tie.Need-returns-3 Inv-loop μ-loop
 returns-3 c = c .before .loop .inv
