@@ -25,7 +25,7 @@ four true false c d = sym (and-false c)
 four false b c d = refl
 
 -- every byte is of both classes: every one is of the first, and every one is of the second
-both : (f g : ℕ → Bool) (xs : List ℕ) → only (λ (x : ℕ). f x && g x) xs ≡ only f xs && only g xs
+pub both : (f g : ℕ → Bool) (xs : List ℕ) → only (λ (x : ℕ). f x && g x) xs ≡ only f xs && only g xs
 both f g [] = only-ended (λ (x : ℕ). f x && g x) [] 0 (omega arith) ∙ sym (rw (only-ended f [] 0 (omega arith), only-ended g [] 0 (omega arith)))
 both f g (x ∷ xs) =
     only-turn (λ (x : ℕ). f x && g x) (x ∷ xs) 0 (omega arith)
@@ -63,7 +63,8 @@ module _ (line : List ℕ) where
   short-enough e = by (leb (length line) longest) refl e
     where
       by : (t : Bool) → leb (length line) longest ≡ t
-          → pick t (pick (only (other lf) line) (pick (only ascii line) (output done 0 0) (output notAscii (run ascii line) 0)) (output hasBreak (run (other lf) line) 0)) (output tooLong 0 0) .answer ≡ done
+          → pick t (pick (only (other lf) line) (pick (only ascii line) (output done 0 0) (output notAscii (run ascii line) 0)) (output hasBreak (run (other lf) line) 0)) (output tooLong 0 0) .answer
+          ≡ done
           → length line ≤ longest
       by true h e = leb-true (length line) longest h
       by false h e = omega arith

@@ -7,11 +7,11 @@ use native.Mathlib.Omega.{arith}
 use lib.ListN.{length, take, drop, getD, length-append, length-take, length-drop, take-append-drop}
 use lib.Seq.{drop-drop, take-all}
 use lib.Dec.{leb}
-use borrow.Author.Tests.{le-leb, lt-leb, leb-true, leb-false}
+use borrow.Author.Tests.{le-leb, lt-leb, leb-false}
 use Rattle.octets.specs.Choice.{pick}
-use Rattle.octets.specs.Laid.{laid, laidFrom, most, counted}
-use Rattle.octets.proofs.Writing.{Writing, start, more, end, from-as, at-front}
-use Rattle.folding.specs.Pieces.{brk, broken, joined, Within}
+use Rattle.octets.specs.Laid.{most, Lays}
+use Rattle.octets.proofs.Writing.{Writing, start, more, end, from-as}
+use Rattle.folding.specs.Pieces.{brk, broken, joined}
 use Rattle.folding.specs.Strict.{first, later}
 use Rattle.folding.specs.Repository.{white, cut, cuts, piecesOf, repository, repositoryPieces}
 
@@ -119,20 +119,6 @@ repository-joins line = refl
 pub repository-keeps : (line : List ℕ) → flatten (repositoryPieces line) ≡ line
 repository-keeps line = cuts-flatten (length line) first line
 
-cuts-within : (n width : ℕ) (rest : List ℕ) → 1 < width → width ≤ first → length rest ≤ n → Within first (cuts n width rest)
-unfolding cuts Within
-cuts-within zero width rest w v h = (omega arith, tt)
-cuts-within (suc n) width rest w v h =
-    by (leb (length rest) first) refl (cuts-within n later (drop (cut width rest) rest) (omega arith) (omega arith) (less n width rest w h))
-  where
-    by : (t : Bool) → leb (length rest) first ≡ t → Within first (cuts n later (drop (cut width rest) rest))
-        → Within first (pick t (rest ∷ []) (take (cut width rest) rest ∷ cuts n later (drop (cut width rest) rest)))
-    by true e f = (leb-true (length rest) first e, tt)
-    by false e f = (omega (arith, length-take (cut width rest) rest, cut-some width rest w), f)
-
-pub repository-within : (line : List ℕ) → Within first (repositoryPieces line)
-repository-within line = cuts-within (length line) first line (omega arith) (omega arith) (omega arith)
-
 -- ---- at work on a line: what is laid, and what is to come from `at` on
 
 pub record Cutting (old out line : List ℕ) (width at n : ℕ) : Type 0 where
@@ -158,8 +144,7 @@ module _ {old out line : List ℕ} {width at n : ℕ} (f : Cutting old out line 
 
     -- a piece is cut off, and a break laid behind it
     pub turn : length old ≤ most → {next : List ℕ} {m : ℕ}
-        → (m ≡ counted (n + length (take (at + k - at) (drop at line) ++ brk))) × (next ≡ laidFrom n (take (at + k - at) (drop at line) ++ brk) out)
-        → Cutting old next line later (at + k) m
+        → Lays n (take (at + k - at) (drop at line) ++ brk) out next m → Cutting old next line later (at + k) m
     turn b p =
         let t : first < length (drop at line) = omega (arith, length-drop at line) in
         let w : at + k - at ≡ k = omega arith in
@@ -175,8 +160,5 @@ module _ {old out line : List ℕ} {width at n : ℕ} (f : Cutting old out line 
 
   -- the remainder is one piece
   pub finish : length line - at ≤ first → {next : List ℕ} {m : ℕ}
-      → (m ≡ counted (n + length (take (length line - at) (drop at line)))) × (next ≡ laidFrom n (take (length line - at) (drop at line)) out)
-      → (m ≡ counted (length (repository line))) × (next ≡ laid (repository line) old)
-  finish h p =
-      at-front (repository line) old
-      (end (f .writing) (from-as n out (all-left ∙ sym (join-short width (drop at line) (omega (arith, length-drop at line)))) p))
+      → Lays n (take (length line - at) (drop at line)) out next m → Lays 0 (repository line) old next m
+  finish h p = end (f .writing) (from-as (all-left ∙ sym (join-short width (drop at line) (omega (arith, length-drop at line)))) p)

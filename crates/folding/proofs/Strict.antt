@@ -9,8 +9,8 @@ use lib.Seq.{drop-drop, take-all}
 use lib.Dec.{leb}
 use borrow.Author.Tests.{le-leb}
 use Rattle.octets.specs.Choice.{pick}
-use Rattle.octets.specs.Laid.{laid, laidFrom, most, counted}
-use Rattle.octets.proofs.Writing.{Writing, start, more, end, from-as, at-front}
+use Rattle.octets.specs.Laid.{most, Lays}
+use Rattle.octets.proofs.Writing.{Writing, start, more, end, from-as}
 use Rattle.octets.specs.Bytes.{space}
 use Rattle.folding.specs.Pieces.{brk, broken, joined, physical, Within}
 use Rattle.folding.specs.Strict.{first, later, units, breakFor, roomFor, foldedUnits, leftAfter, strict, onto, kept, packed, strictPieces, FilledFrom, Filled}
@@ -181,8 +181,7 @@ begin old piece left = record { inside = omega arith; writing = start 0 old (fol
 module _ {old out piece : List ℕ} {left₀ left at n : ℕ} (f : Folding old out piece left₀ left at n) where
   -- a physical line is filled, and a break laid behind it
   pub turn : left < length piece - at → length old ≤ most → {next : List ℕ} {m : ℕ}
-      → (m ≡ counted (n + length (take (at + left - at) (drop at piece) ++ brk))) × (next ≡ laidFrom n (take (at + left - at) (drop at piece) ++ brk) out)
-      → Folding old next piece left₀ later (at + left) m
+      → Lays n (take (at + left - at) (drop at piece) ++ brk) out next m → Folding old next piece left₀ later (at + left) m
   turn h k p =
       let t : left < length (drop at piece) = omega (arith, length-drop at piece) in
       let d : drop left (drop at piece) ≡ drop (at + left) piece = drop-drop left at piece in
@@ -196,12 +195,10 @@ module _ {old out piece : List ℕ} {left₀ left at n : ℕ} (f : Folding old o
 
   -- what is left fits
   pub finish : length piece - at ≤ left → {next : List ℕ} {m : ℕ}
-      → (m ≡ counted (n + length (take (length piece - at) (drop at piece)))) × (next ≡ laidFrom n (take (length piece - at) (drop at piece)) out)
-      → (left - (length piece - at) ≡ leftAfter left₀ (units piece))
-      × ((m ≡ counted (length (foldedUnits left₀ (units piece)))) × (next ≡ laid (foldedUnits left₀ (units piece)) old))
+      → Lays n (take (length piece - at) (drop at piece)) out next m
+      → (left - (length piece - at) ≡ leftAfter left₀ (units piece)) × Lays 0 (foldedUnits left₀ (units piece)) old next m
   finish h p =
       let l : length (drop at piece) ≡ length piece - at = length-drop at piece in (
         sym (left-fits left (drop at piece) (omega arith) ∙ rw l) ∙ f .column,
-        at-front (foldedUnits left₀ (units piece)) old
-            (end (f .writing) (from-as n out (take-all (length piece - at) (drop at piece) (omega arith) ∙ sym (fold-fits left (drop at piece) (omega arith))) p)),
+        end (f .writing) (from-as (take-all (length piece - at) (drop at piece) (omega arith) ∙ sym (fold-fits left (drop at piece) (omega arith))) p),
       )

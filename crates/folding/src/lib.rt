@@ -3,7 +3,7 @@ ghost use mathlib.Core.Path.{_≡_};
 ghost use Prim.Native.Nat.{_+_, _<_};
 ghost use lib.ListN.{length};
 ghost use mathlib.Core.List.{_++_};
-ghost use Rattle.octets.specs.Laid.{laid, laidFrom, counted};
+ghost use Rattle.octets.specs.Laid.{laid, Lays};
 ghost use Rattle.octets.specs.Runs.{run, only};
 ghost use Rattle.folding.specs.Pieces.{brk};
 ghost use Rattle.folding.specs.Strict.{units, foldedUnits, foldedPiece, strict};
@@ -38,7 +38,7 @@ pub struct Folded {
 
 // Lays a piece and the break behind it.
 fn lay_line(piece: &[u8], out: &mut [u8], at: usize) -> usize
-    ensures { λ r. ⌜ (r ≡ counted (at + length (now (piece .entry) ++ brk))) × (now (out .exit) ≡ laidFrom at (now (piece .entry) ++ brk) (now (out .entry))) ⌝ }
+    ensures { λ r. ⌜ Lays at (now (piece .entry) ++ brk) (now (out .entry)) (now (out .exit)) r ⌝ }
 {
     let end = octets::lay(piece, out, at);
     octets::lay(b"\r\n ", out, end)
@@ -81,7 +81,7 @@ fn cut_at(width: usize, rest: &[u8]) -> usize
 
 // Folds a line as the repository does, over the front of the buffer.
 fn fold_repository(line: &[u8], out: &mut [u8]) -> usize
-    ensures { λ r. ⌜ (r ≡ counted (length (repository (now (line .entry))))) × (now (out .exit) ≡ laid (repository (now (line .entry))) (now (out .entry))) ⌝ }
+    ensures { λ r. ⌜ Lays 0 (repository (now (line .entry))) (now (out .entry)) (now (out .exit)) r ⌝ }
 {
     let mut width = Column::FIRST;
     let mut at: usize = 0;

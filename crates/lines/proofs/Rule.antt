@@ -1,36 +1,33 @@
 -- Laws of what a line is: by what its code finds, and what follows for its parts. Assumes nothing.
-use mathlib.Core.Path.{_≡_, refl, sym, ap, _∙_}
+use mathlib.Core.Path.{_≡_, sym, ap, _∙_}
 use mathlib.Core.Bool.{Bool, true, false, _&&_}
-use mathlib.Core.List.{List, [], _∷_}
-use Prim.Native.Nat.{ℕ, _+_, _-_, _≤_, _<_}
+use mathlib.Core.List.{List}
+use Prim.Native.Nat.{ℕ, _+_, _-_, _≤_}
 use native.Mathlib.Omega.{arith}
 use lib.ListN.{length, getD, drop, length-drop}
 use lib.Dec.{eqb, ltb}
-use borrow.Author.Tests.{eq-eqb, ne-eqb, eqb-true, eqb-false, ltb-true}
+use borrow.Author.Tests.{eq-eqb, ne-eqb}
 use Rattle.octets.specs.Choice.{pick}
 use Rattle.octets.specs.Bytes.{keyByte, colon}
 use Rattle.octets.specs.Runs.{run}
 use Rattle.octets.specs.Words.{startsWord}
-use Rattle.octets.specs.Keys.{keyOf, reserved}
-use Rattle.octets.specs.declared.Key.{Key}
+use Rattle.octets.specs.Keys.{keyOf}
 use Rattle.octets.specs.declared.Key.the-variants.{Reserved, Run}
-use Rattle.octets.proofs.Words.{starts-length}
 use Rattle.octets.proofs.Runs.{within}
 use Rattle.octets.proofs.Keys.{run-of}
 use Rattle.parameters.specs.Values.{span}
-use Rattle.parameters.specs.Parameters.{passedOf, paramsOf, paramsUsed}
+use Rattle.parameters.specs.Parameters.{passedOf}
 use Rattle.parameters.specs.declared.Passed.{Passed}
-use Rattle.parameters.proofs.Lists.{params-within, params-few, params-passed}
+use Rattle.parameters.proofs.Lists.{params-within}
 use Rattle.lines.specs.declared.Fault.the-variants.{BadLine}
-use Rattle.lines.specs.declared.Line.{Line}
-use Rattle.lines.specs.declared.Line.the-variants.{Empty, Begin, BadBegin, End, Content, Bad}
-use Rattle.lines.specs.Rule.{beginOf, property, valueFrom, afterKey, byKey, beginMark, endMark, lineOf}
+use Rattle.lines.specs.declared.Line.the-variants.{Empty, Begin, BadBegin, End, Bad}
+use Rattle.lines.specs.Rule.{afterBegin, afterEnd, beginOf, property, valueFrom, afterKey, byKey, beginMark, endMark, lineOf}
 
-pub begun : (line : List ℕ) (n : ℕ) (t : Bool) → n ≡ run keyByte (drop 6 line) → (ltb 0 (length line - 6) && eqb n (length line - 6)) ≡ t
-    → beginOf line ≡ pick t (Begin (span 6 (length line - 6))) BadBegin
+pub begun : (line : List ℕ) (n : ℕ) (t : Bool) → n ≡ run keyByte (drop afterBegin line) → (ltb 0 (length line - afterBegin) && eqb n (length line - afterBegin)) ≡ t
+    → beginOf line ≡ pick t (Begin (span afterBegin (length line - afterBegin))) BadBegin
 begun line n t e p =
-    let q : (ltb 0 (length line - 6) && eqb (run keyByte (drop 6 line)) (length line - 6)) ≡ t = cc in
-    ap (λ (u : Bool). pick u (Begin (span 6 (length line - 6))) BadBegin) q
+    let q : (ltb 0 (length line - afterBegin) && eqb (run keyByte (drop afterBegin line)) (length line - afterBegin)) ≡ t = cc in
+    ap (λ (u : Bool). pick u (Begin (span afterBegin (length line - afterBegin))) BadBegin) q
 
 -- ---- the property rule, by its key
 
@@ -73,7 +70,7 @@ module _ (line : List ℕ) (some : length line ≡ 0 → ⊥) where
   unfolding lineOf
   is-begin h = rw (ne-eqb (length line) 0 some, h)
 
-  pub is-end : startsWord beginMark line ≡ false → startsWord endMark line ≡ true → lineOf line ≡ End (span 4 (length line - 4))
+  pub is-end : startsWord beginMark line ≡ false → startsWord endMark line ≡ true → lineOf line ≡ End (span afterEnd (length line - afterEnd))
   unfolding lineOf
   is-end b h = rw (ne-eqb (length line) 0 some, b, h)
 

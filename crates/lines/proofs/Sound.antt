@@ -1,12 +1,12 @@
 -- What a line tells of itself lies within it. Assumes nothing.
-use mathlib.Core.Path.{_≡_, refl, sym, ap, _∙_}
+use mathlib.Core.Path.{_≡_, refl}
 use mathlib.Core.Bool.{Bool, true, false, _&&_}
 use mathlib.Core.List.{List}
-use Prim.Native.Nat.{ℕ, _+_, _-_, _≤_, _<_}
+use Prim.Native.Nat.{ℕ, _+_, _-_, _≤_}
 use native.Mathlib.Omega.{arith}
-use lib.ListN.{length, getD, drop, length-drop}
+use lib.ListN.{length, getD, drop}
 use lib.Dec.{eqb, ltb}
-use borrow.Author.Tests.{eqb-true, eqb-false}
+use borrow.Author.Tests.{eqb-false}
 use Rattle.octets.specs.Choice.{pick}
 use Rattle.octets.specs.Bytes.{keyByte, colon}
 use Rattle.octets.specs.Runs.{run}
@@ -16,21 +16,19 @@ use Rattle.octets.specs.declared.Key.{Key}
 use Rattle.octets.specs.declared.Key.the-variants.{Reserved, Run}
 use Rattle.octets.proofs.Words.{starts-length}
 use Rattle.parameters.specs.Values.{span}
-use Rattle.parameters.specs.Parameters.{passedOf, paramsOf, paramsUsed}
+use Rattle.parameters.specs.Parameters.{passedOf}
 use Rattle.parameters.specs.declared.Passed.{Passed}
 use Rattle.parameters.proofs.Lists.{params-few}
 use Rattle.lines.specs.declared.Fault.the-variants.{BadLine}
-use Rattle.lines.specs.declared.Property.{Property}
-use Rattle.lines.specs.declared.Line.{Line}
 use Rattle.lines.specs.declared.Line.the-variants.{Empty, Begin, BadBegin, End, Content, Bad}
-use Rattle.lines.specs.Sound.{SoundProperty, Sound}
-use Rattle.lines.specs.Rule.{beginOf, valueFrom, byKey, beginMark, endMark, lineOf}
+use Rattle.lines.specs.Sound.{Sound}
+use Rattle.lines.specs.Rule.{afterBegin, afterEnd, beginOf, valueFrom, byKey, beginMark, endMark, lineOf}
 use Rattle.lines.proofs.Rule.{key-within, passed-within}
 
-sound-begin : (line : List ℕ) → 6 ≤ length line → Sound line (beginOf line)
-sound-begin line h = go (ltb 0 (length line - 6) && eqb (run keyByte (drop 6 line)) (length line - 6))
+sound-begin : (line : List ℕ) → afterBegin ≤ length line → Sound line (beginOf line)
+sound-begin line h = go (ltb 0 (length line - afterBegin) && eqb (run keyByte (drop afterBegin line)) (length line - afterBegin))
   where
-    go : (t : Bool) → Sound line (pick t (Begin (span 6 (length line - 6))) BadBegin)
+    go : (t : Bool) → Sound line (pick t (Begin (span afterBegin (length line - afterBegin))) BadBegin)
     go true = (refl, omega arith)
     go false = tt
 
@@ -50,10 +48,10 @@ module _ (line : List ℕ) (n : ℕ) (some : n ≡ 0 → ⊥) (h : n ≤ length 
       go : (t : Bool) → eqb (n + q .used) (length line) ≡ t → (u : Bool)
           → Sound line (pick t (Content (record { key = span 0 n; parameters = q .count; value = span (n + q .used) 0 }))
           (pick u (Content (record { key = span 0 n; parameters = q .count; value = span (n + q .used + 1) (length line - (n + q .used + 1)) })) (Bad BadLine)))
-      go true e u = record { front = refl; some = omega arith; count = refl; fewer = few; value = omega (arith, at-most) }
+      go true e u = record { front = refl; some = omega arith; count = refl; fewer = few; behind = omega arith; value = omega (arith, at-most) }
       go false e true =
           let ne = eqb-false (n + q .used) (length line) e in
-          record { front = refl; some = omega arith; count = refl; fewer = few; value = omega (arith, at-most, ne) }
+          record { front = refl; some = omega arith; count = refl; fewer = few; behind = omega arith; value = omega (arith, at-most, ne) }
       go false e false = tt
 
 sound-key : (line : List ℕ) (k : Key) → keyOf line ≡ k → Sound line (byKey k line)
@@ -69,7 +67,7 @@ unfolding lineOf
 sound line = go (eqb (length line) 0) (startsWord beginMark line) refl (startsWord endMark line) refl
   where
     go : (t b : Bool) → startsWord beginMark line ≡ b → (e : Bool) → startsWord endMark line ≡ e
-        → Sound line (pick t Empty (pick b (beginOf line) (pick e (End (span 4 (length line - 4))) (byKey (keyOf line) line))))
+        → Sound line (pick t Empty (pick b (beginOf line) (pick e (End (span afterEnd (length line - afterEnd))) (byKey (keyOf line) line))))
     go true b p e q = tt
     go false true p e q = sound-begin line (starts-length beginMark line p)
     go false false p true q = (refl, omega (arith, starts-length endMark line q))

@@ -16,16 +16,30 @@ use Rattle.octets.specs.declared.Span.{Span}
 use Rattle.parameters.specs.Values.{span}
 use Rattle.parameters.specs.Parameters.{passedOf}
 use Rattle.parameters.specs.declared.Passed.{Passed}
-use Rattle.lines.specs.declared.Fault.{Fault}
 use Rattle.lines.specs.declared.Fault.the-variants.{BadLine}
-use Rattle.lines.specs.declared.Property.{Property}
 use Rattle.lines.specs.declared.Line.{Line}
 use Rattle.lines.specs.declared.Line.the-variants.{Empty, Begin, BadBegin, End, Content, Bad}
+
+-- `BEGIN:` and `END:` in any case
+abbrev pub beginMark : List ℕ
+beginMark = beginWord ++ colon ∷ []
+
+abbrev pub endMark : List ℕ
+endMark = endWord ++ colon ∷ []
+
+-- what stands behind them starts at
+abbrev pub afterBegin : ℕ
+afterBegin = length beginMark
+
+abbrev pub afterEnd : ℕ
+afterEnd = length endMark
 
 -- the name behind `BEGIN:` is of key bytes, one or more
 abbrev pub beginOf : List ℕ → Line
 beginOf line =
-    pick (ltb 0 (length line - 6) && eqb (run keyByte (drop 6 line)) (length line - 6)) (Begin (span 6 (length line - 6))) BadBegin
+    pick (ltb 0 (length line - afterBegin) && eqb (run keyByte (drop afterBegin line)) (length line - afterBegin))
+    (Begin (span afterBegin (length line - afterBegin)))
+    BadBegin
 
 abbrev pub property : ℕ → ℕ → Span → Line
 property key parameters value = Content (record { key = span 0 key; parameters = parameters; value = value })
@@ -45,15 +59,8 @@ abbrev pub byKey : Key → List ℕ → Line
 byKey Reserved line = Bad BadLine
 byKey (Run n) line = pick (eqb n 0) (Bad BadLine) (afterKey n (passedOf (drop n line)) line)
 
--- `BEGIN:` and `END:` in any case
-abbrev pub beginMark : List ℕ
-beginMark = beginWord ++ colon ∷ []
-
-abbrev pub endMark : List ℕ
-endMark = endWord ++ colon ∷ []
-
 unfoldable pub lineOf : List ℕ → Line
 lineOf line =
     pick (eqb (length line) 0) Empty
     (pick (startsWord beginMark line) (beginOf line)
-    (pick (startsWord endMark line) (End (span 4 (length line - 4))) (byKey (keyOf line) line)))
+    (pick (startsWord endMark line) (End (span afterEnd (length line - afterEnd))) (byKey (keyOf line) line)))

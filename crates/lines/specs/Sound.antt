@@ -4,7 +4,8 @@ use Prim.Native.Nat.{ℕ, _+_, _≤_, _<_}
 use mathlib.Core.Path.{_≡_}
 use mathlib.Core.List.{List}
 use lib.ListN.{length, drop}
-use Rattle.parameters.specs.Parameters.{paramsOf}
+use Rattle.parameters.specs.Parameters.{paramsOf, paramsUsed}
+use Rattle.lines.specs.Rule.{afterBegin, afterEnd}
 use Rattle.lines.specs.declared.Property.{Property}
 use Rattle.lines.specs.declared.Line.{Line}
 use Rattle.lines.specs.declared.Line.the-variants.{Empty, Begin, BadBegin, End, Content, Bad}
@@ -14,12 +15,13 @@ pub record SoundProperty (line : List ℕ) (p : Property) : Type 0 where
   pub some : 0 < p .key .len
   pub count : p .parameters ≡ length (paramsOf (drop (p .key .len) line) 0)
   pub fewer : p .key .len + p .parameters ≤ length line
+  pub behind : p .key .len + paramsUsed (paramsOf (drop (p .key .len) line) 0) ≤ p .value .start
   pub value : p .value .start + p .value .len ≤ length line
 
 abbrev pub Sound : List ℕ → Line → Type 0
 Sound line Empty = Unit
-Sound line (Begin name) = (name .start ≡ 6) × (6 + name .len ≡ length line)
+Sound line (Begin name) = (name .start ≡ afterBegin) × (afterBegin + name .len ≡ length line)
 Sound line BadBegin = Unit
-Sound line (End rest) = (rest .start ≡ 4) × (4 + rest .len ≡ length line)
+Sound line (End rest) = (rest .start ≡ afterEnd) × (afterEnd + rest .len ≡ length line)
 Sound line (Content p) = SoundProperty line p
 Sound line (Bad fault) = Unit

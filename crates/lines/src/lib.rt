@@ -5,7 +5,7 @@ ghost use lib.ListN.{length, drop};
 ghost use Rattle.octets.specs.Words.{startsWord};
 ghost use Rattle.octets.specs.Keys.{keyOf};
 ghost use Rattle.lines.specs.Split.{extentOf};
-ghost use Rattle.lines.specs.Rule.{lineOf, beginOf, byKey, beginMark, endMark};
+ghost use Rattle.lines.specs.Rule.{lineOf, afterBegin, beginOf, byKey, beginMark, endMark};
 use octets::Key;
 use octets::Span;
 
@@ -69,14 +69,22 @@ pub fn line_at(text: &[u8], at: usize) -> Extent
     }
 }
 
+// Where the rest of a line starts, behind `BEGIN:` and behind `END:`.
+const AFTER_BEGIN: usize = 6;
+
+const AFTER_END: usize = 4;
+
 fn begin_line(line: &[u8]) -> Line
-    requires { ⌜ 6 ≤ length (now line) ⌝ }
+    requires { ⌜ afterBegin ≤ length (now line) ⌝ }
     ensures { λ r. ⌜ r ≡ beginOf (now (line .entry)) ⌝ }
 {
-    let n = line.len() - 6;
-    let run = octets::key_run(&line[6..]);
+    let n = line.len() - AFTER_BEGIN;
+    let run = octets::key_run(&line[AFTER_BEGIN..]);
     if (0 < n) & (run == n) {
-        return Line::Begin(Span { start: 6, len: n });
+        return Line::Begin(Span {
+            start: AFTER_BEGIN,
+            len: n,
+        });
     }
     Line::BadBegin
 }
@@ -127,8 +135,8 @@ pub fn read_line(line: &[u8]) -> Line
         }
         if octets::starts_word(b"END:", line) {
             return Line::End(Span {
-                start: 4,
-                len: line.len() - 4,
+                start: AFTER_END,
+                len: line.len() - AFTER_END,
             });
         }
     }

@@ -46,7 +46,12 @@ stored xs old =
 
     go : (t : Bool) → leb (length xs) (length old) ≡ t → take n xs ++ drop (min n (length xs)) old ≡ laid xs old
     go true e = rw (min-eq-left (leb-true _ _ e), min-eq-left (le-refl (length xs)), take-all (length xs) xs (le-refl _), take-all (length old) xs (leb-true _ _ e))
-    go false e = rw (min-eq-right (le-of-lt (leb-false _ _ e)), min-eq-left (le-of-lt (leb-false _ _ e)), drop-of-length-le old (le-refl (length old)), drop-of-length-le old (le-of-lt (leb-false _ _ e)))
+    go false e = rw (
+      min-eq-right (le-of-lt (leb-false _ _ e)),
+      min-eq-left (le-of-lt (leb-false _ _ e)),
+      drop-of-length-le old (le-refl (length old)),
+      drop-of-length-le old (le-of-lt (leb-false _ _ e)),
+    )
 
 -- a loop that stores the first n bytes one after the other: what is stored and what is to come
 pub store : (xs out : List ℕ) (i n : ℕ) → i < n → n ≤ length xs

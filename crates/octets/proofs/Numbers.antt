@@ -9,13 +9,13 @@ use lib.ListN.{length, getD, drop}
 use lib.Seq.{drop-cons}
 use lib.Dec.{eqb, lit<, lit≤}
 use lib.Bits.{bitAnd, bitOr, bitXor, and-le-l, and-le-r, and-zero-l, or-zero-l, xor-zero-l, and-block, or-block, or-lt, xor-block, xor-lt, xor-self, xor-add-and, shifted-half, shifted-even}
-use lib.Count.{trailingZeros, under, trailing-of-zero}
+use lib.Count.{trailingZeros, trailing-of-zero}
 use borrow.Author.Tests.{eqb-true, eqb-false, eq-eqb, ne-eqb}
 use Rattle.octets.specs.Choice.{pick}
 use Rattle.octets.specs.Bytes.{capital, other}
 use Rattle.octets.specs.Runs.{run}
 use Rattle.octets.specs.Numbers.{each, number, marks, eight}
-use Rattle.octets.proofs.Runs.{within, through, inside}
+use Rattle.octets.proofs.Runs.{within, through, ends-inside}
 use Rattle.octets.proofs.Every.{equal}
 
 abbrev Small : (ℕ → ℕ) → Type 0
@@ -221,7 +221,7 @@ module _ (class : ℕ → Bool) (a : List ℕ) (at : ℕ) (h : at + 8 ≤ length
     ends-here some =
         let never : run class (eight a at) ≡ 8 → ⊥ = λ w. some (e ∙ no-mark class (eight a at) w) in
         let short : run class (eight a at) < 8 = omega (arith, within class (eight a at), never) in
-        ap (run class) in-front ∙ inside class (eight a at) (drop (at + 8) a) short ∙ sym told
+        ap (run class) in-front ∙ ends-inside class (eight a at) (drop (at + 8) a) short ∙ sym told
 
     pub goes-on : m ≡ 0 → run class (drop at a) ≡ 8 + run class (drop (at + 8) a)
     goes-on none =

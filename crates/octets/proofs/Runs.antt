@@ -1,4 +1,4 @@
--- Laws of the longest run of a class, over any class. Assumes nothing.
+-- Laws of the longest run of a class and of lists that are one whole run, over any class, and of the loops that look for them. Assumes nothing.
 use mathlib.Core.Path.{_≡_, refl, sym, ap, _∙_}
 use mathlib.Core.Bool.{Bool, true, false, _&&_}
 use mathlib.Core.List.{List, [], _∷_, _++_}
@@ -27,6 +27,12 @@ module _ (class : ℕ → Bool) where
   pub ended : (xs : List ℕ) (i : ℕ) → length xs ≤ i → run class (drop i xs) ≡ 0
   unfolding run
   ended xs i h = rw (drop-of-length-le xs h)
+
+  -- no run where the first byte is of another class
+  pub no-run : (xs : List ℕ) (d : ℕ) → class (getD xs 0 d) ≡ false → run class xs ≡ 0
+  unfolding run
+  no-run [] d e = refl
+  no-run (x ∷ xs) d e = rw e
 
   pub within : (xs : List ℕ) → run class xs ≤ length xs
   unfolding run
@@ -62,10 +68,10 @@ module _ (class : ℕ → Bool) where
       go false e rest = omega arith
 
   -- a run that ends inside a list knows nothing of what follows it
-  pub inside : (xs ys : List ℕ) → run class xs < length xs → run class (xs ++ ys) ≡ run class xs
+  pub ends-inside : (xs ys : List ℕ) → run class xs < length xs → run class (xs ++ ys) ≡ run class xs
   unfolding run
-  inside [] ys h = absurd (not-suc-le-zero h)
-  inside (x ∷ xs) ys h = go (class x) h (inside xs ys)
+  ends-inside [] ys h = absurd (not-suc-le-zero h)
+  ends-inside (x ∷ xs) ys h = go (class x) h (ends-inside xs ys)
     where
       go : (t : Bool) → pick t (suc (run class xs)) 0 < suc (length xs)
           → (run class xs < length xs → run class (xs ++ ys) ≡ run class xs)
@@ -103,18 +109,6 @@ module _ (class : ℕ → Bool) where
       go true e rest = rw e (ap suc rest)
       go false e rest = refl
 
-  -- every byte is of the class: this one, and those behind it
-  pub only-turn : (xs : List ℕ) (i : ℕ) → i < length xs → only class (drop i xs) ≡ class (getD xs i 0) && only class (drop (i + 1) xs)
-  unfolding run
-  only-turn xs i h = rw (drop-cons xs i 0 h, add-one) (go (class (getD xs i 0)) (drop (suc i) xs))
-    where
-      go : (t : Bool) (ys : List ℕ) → leb (suc (length ys)) (pick t (suc (run class ys)) 0) ≡ t && leb (length ys) (run class ys)
-      go true ys = leb·suc-suc (length ys) (run class ys)
-      go false ys = leb·suc-zero (length ys)
-
-  pub only-ended : (xs : List ℕ) (i : ℕ) → length xs ≤ i → only class (drop i xs) ≡ true
-  only-ended xs i h = rw (drop-of-length-le xs h) (leb·zero (run class []))
-
 -- a run of a class is passed over within the run of a wider one
 wider : (narrow wide : ℕ → Bool) → ((x : ℕ) → narrow x ≡ true → wide x ≡ true)
     → (n : ℕ) (xs : List ℕ) → n ≤ run narrow xs → n + run wide (drop n xs) ≡ run wide xs
@@ -136,11 +130,65 @@ wider-at narrow wide sub xs i n h = ap (λ (ys : List ℕ). n + run wide ys) (sy
 pub passed : (class : ℕ → Bool) (xs : List ℕ) (i n : ℕ) → n ≤ run class (drop i xs) → n + run class (drop (i + n) xs) ≡ run class (drop i xs)
 passed class = wider-at class class (λ (x : ℕ) e. e)
 
--- a test that goes on over a list, joined to what was found before it
-pub onward : (so t u : Bool) {v : Bool} → v ≡ t && u → (so && t) && u ≡ so && v
-onward true t u e = sym e
-onward false t u e = refl
+-- bytes of a class are bytes of a wider one
+pub whole-wider : (narrow wide : ℕ → Bool) → ((x : ℕ) → narrow x ≡ true → wide x ≡ true)
+    → (xs : List ℕ) → run narrow xs ≡ length xs → run wide xs ≡ length xs
+unfolding run
+whole-wider narrow wide sub [] h = refl
+whole-wider narrow wide sub (x ∷ xs) h = rw (sub x (whole-head narrow x xs h)) (ap suc (whole-wider narrow wide sub xs (whole-tail narrow x xs h)))
 
-pub ended-all : (so : Bool) {u : Bool} → u ≡ true → so ≡ so && u
-ended-all true e = sym e
-ended-all false e = refl
+-- ---- a loop for the longest run, which has passed i bytes of the class
+
+pub record Ran (class : ℕ → Bool) (xs : List ℕ) (i : ℕ) : Type 0 where
+  pub inside : i ≤ length xs
+  pub left : i + run class (drop i xs) ≡ run class xs
+
+pub ran-start : (class : ℕ → Bool) (xs : List ℕ) → Ran class xs 0
+ran-start class xs = record { inside = omega arith; left = omega arith }
+
+module _ {class : ℕ → Bool} {xs : List ℕ} {i : ℕ} (r : Ran class xs i) where
+  pub ran-all : length xs ≤ i → i ≡ run class xs
+  ran-all h = omega (arith, r .left, ended class xs i h)
+
+  pub ran-more : i < length xs → class (getD xs i 0) ≡ true → Ran class xs (i + 1)
+  ran-more h e = record { inside = omega arith; left = omega (arith, r .left, on class xs i h e) }
+
+  pub ran-end : i < length xs → class (getD xs i 0) ≡ false → i ≡ run class xs
+  ran-end h e = omega (arith, r .left, stop class xs i h e)
+
+-- ---- a loop with no branch for whether every byte is of the class: of the first i it is known
+
+module _ (class : ℕ → Bool) where
+  -- this byte, and those behind it
+  pub only-turn : (xs : List ℕ) (i : ℕ) → i < length xs → only class (drop i xs) ≡ class (getD xs i 0) && only class (drop (i + 1) xs)
+  unfolding run
+  only-turn xs i h = rw (drop-cons xs i 0 h, add-one) (go (class (getD xs i 0)) (drop (suc i) xs))
+    where
+      go : (t : Bool) (ys : List ℕ) → leb (suc (length ys)) (pick t (suc (run class ys)) 0) ≡ t && leb (length ys) (run class ys)
+      go true ys = leb·suc-suc (length ys) (run class ys)
+      go false ys = leb·suc-zero (length ys)
+
+  pub only-ended : (xs : List ℕ) (i : ℕ) → length xs ≤ i → only class (drop i xs) ≡ true
+  only-ended xs i h = rw (drop-of-length-le xs h) (leb·zero (run class []))
+
+pub record Tried (class : ℕ → Bool) (xs : List ℕ) (so : Bool) (i : ℕ) : Type 0 where
+  pub inside : i ≤ length xs
+  pub left : so && only class (drop i xs) ≡ only class xs
+
+pub tried-start : (class : ℕ → Bool) (xs : List ℕ) → Tried class xs true 0
+tried-start class xs = record { inside = omega arith; left = refl }
+
+module _ {class : ℕ → Bool} {xs : List ℕ} {so : Bool} {i : ℕ} (r : Tried class xs so i) where
+  pub tried-more : i < length xs → Tried class xs (so && class (getD xs i 0)) (i + 1)
+  tried-more h = record { inside = omega arith; left = go so (class (getD xs i 0)) (only class (drop (i + 1) xs)) (only-turn class xs i h) ∙ r .left }
+    where
+      go : (so t u : Bool) {v : Bool} → v ≡ t && u → (so && t) && u ≡ so && v
+      go true t u e = sym e
+      go false t u e = refl
+
+  pub tried-all : length xs ≤ i → so ≡ only class xs
+  tried-all h = go so (only-ended class xs i h) ∙ r .left
+    where
+      go : (so : Bool) {u : Bool} → u ≡ true → so ≡ so && u
+      go true e = sym e
+      go false e = refl

@@ -3,13 +3,13 @@ use mathlib.Core.Path.{_≡_, refl, sym, ap, _∙_}
 use mathlib.Core.Bool.{Bool, true, false}
 use mathlib.Core.List.{List, [], _∷_, _++_, append-nil, append-assoc}
 use Prim.Native.Nat.{ℕ, _+_, _-_, _≤_, min}
-use native.Mathlib.Nat.{min-eq-left, min-eq-right, le-of-lt}
+use native.Mathlib.Nat.{zero-add, min-eq-left, min-eq-right, le-of-lt}
 use native.Mathlib.Omega.{arith}
 use lib.ListN.{length, take, drop, drop-of-length-le, length-append, length-take, length-drop, take-append-drop}
 use lib.Seq.{take-all, take-append-add, drop-append-add, length-take-le}
 use lib.Dec.{leb}
 use borrow.Author.Tests.{leb-true, leb-false}
-use Rattle.octets.specs.Laid.{laid, laidFrom, most, counted}
+use Rattle.octets.specs.Laid.{laid, laidFrom, most, counted, Lays}
 use Rattle.octets.proofs.Lists.{lent}
 use Rattle.octets.proofs.Laid.{length-laid, nothing, then}
 
@@ -47,14 +47,12 @@ from-then at xs ys old = by (leb at (length old)) refl
         rw (past at xs old h) (past (at + length xs) ys old (omega arith) ∙ sym (past at (xs ++ ys) old h))
 
 -- the same, as two writes leave it that count on
-pub both : (at : ℕ) (xs ys old : List ℕ) → length old ≤ most → {mid new : List ℕ} {n m : ℕ}
-    → n ≡ counted (at + length xs) → mid ≡ laidFrom at xs old → m ≡ counted (n + length ys) → new ≡ laidFrom n ys mid
-    → (m ≡ counted (at + length (xs ++ ys))) × (new ≡ laidFrom at (xs ++ ys) old)
-both at xs ys old h {mid} {new} {n} {m} p q r s = (
-  omega (arith, length-append xs ys),
-  s ∙ (ap (λ (k : ℕ). laidFrom k ys mid) p
-      ∙ (at-most (at + length xs) most ys mid (rw q (omega (arith, length-from at xs old))) ∙ rw q (from-then at xs ys old))),
-)
+pub both : {at n m : ℕ} {xs ys old mid new : List ℕ} → Lays at xs old mid n → Lays n ys mid new m → length old ≤ most → Lays at (xs ++ ys) old new m
+both {at} {n} {m} {xs} {ys} {old} {mid} p q h = record {
+  count = omega (arith, length-append xs ys, p .count, q .count);
+  is = q .is ∙ (ap (λ (k : ℕ). laidFrom k ys mid) (p .count)
+      ∙ (at-most (at + length xs) most ys mid (rw (p .is) (omega (arith, length-from at xs old))) ∙ rw (p .is) (from-then at xs ys old)));
+}
 
 -- the part from `at` on is lent, and comes back with xs laid over it
 pub lent-back : (at : ℕ) (xs old : List ℕ) {ys : List ℕ} → ys ≡ laid xs (take (length old - at) (drop at old))
@@ -73,39 +71,30 @@ start from old all = record { lies = refl; count = refl; same = refl }
 
 -- xs is laid, the next part
 pub more : {from : ℕ} {old all out rest : List ℕ} {at : ℕ} → Writing from old all out rest at → length old ≤ most
-    → (xs new : List ℕ) → rest ≡ xs ++ new → {next : List ℕ} {n : ℕ} → (n ≡ counted (at + length xs)) × (next ≡ laidFrom at xs out)
-    → Writing from old all next new n
-more {from} {old} {all} {out} {rest} {at} l h xs new e {next} {n} (p, q) =
-    let b = both at xs new out (omega (arith, l .same)) p q refl refl in
+    → (xs new : List ℕ) → rest ≡ xs ++ new → {next : List ℕ} {n : ℕ} → Lays at xs out next n → Writing from old all next new n
+more {from} {old} {all} {out} {rest} {at} l h xs new e p =
+    let b = both p (record { count = refl; is = refl }) (omega (arith, l .same)) in
     record {
-      lies = b .1 ∙ (rw e at (l .lies));
-      count = b .0 ∙ (rw e at (l .count));
-      same = rw q (length-from at xs out ∙ l .same);
+      lies = b .is ∙ (rw e at (l .lies));
+      count = b .count ∙ (rw e at (l .count));
+      same = rw (p .is) (length-from at xs out ∙ l .same);
     }
 
 -- the last part
-pub end : {from : ℕ} {old all out rest : List ℕ} {at : ℕ} → Writing from old all out rest at
-    → {next : List ℕ} {n : ℕ} → (n ≡ counted (at + length rest)) × (next ≡ laidFrom at rest out)
-    → (n ≡ counted (from + length all)) × (next ≡ laidFrom from all old)
-end l (p, q) = (p ∙ l .count, q ∙ l .lies)
+pub end : {from : ℕ} {old all out rest next : List ℕ} {at n : ℕ} → Writing from old all out rest at → Lays at rest out next n → Lays from all old next n
+end l p = record { count = p .count ∙ l .count; is = p .is ∙ l .lies }
 
 -- the same of equal bytes
-pub from-as : (at : ℕ) (old : List ℕ) {xs ys new : List ℕ} {n : ℕ} → xs ≡ ys
-    → (n ≡ counted (at + length xs)) × (new ≡ laidFrom at xs old) → (n ≡ counted (at + length ys)) × (new ≡ laidFrom at ys old)
-from-as at old e (p, q) = (p ∙ ap (λ (k : List ℕ). counted (at + length k)) e, q ∙ ap (λ (k : List ℕ). laidFrom at k old) e)
-
-pub laid-as : (old : List ℕ) {xs ys new : List ℕ} {n : ℕ} → xs ≡ ys
-    → (n ≡ counted (length xs)) × (new ≡ laid xs old) → (n ≡ counted (length ys)) × (new ≡ laid ys old)
-laid-as old e (p, q) = (p ∙ ap (λ (k : List ℕ). counted (length k)) e, q ∙ ap (λ (k : List ℕ). laid k old) e)
-
--- from the front on
-pub at-front : (xs old : List ℕ) {new : List ℕ} {n : ℕ}
-    → (n ≡ counted (0 + length xs)) × (new ≡ laidFrom 0 xs old) → (n ≡ counted (length xs)) × (new ≡ laid xs old)
-at-front xs old (p, q) = (p ∙ ap counted (omega arith), q)
+pub from-as : {at n : ℕ} {old xs ys new : List ℕ} → xs ≡ ys → Lays at xs old new n → Lays at ys old new n
+from-as e p = rw e at p
 
 -- nothing is laid
-pub stays : (at : ℕ) (old : List ℕ) → at ≤ most → (at ≡ counted (at + length {A = ℕ} [])) × (old ≡ laidFrom at [] old)
-stays at old h = (
-  sym (ap counted (omega arith) ∙ min-eq-left h),
-  sym (rw (nothing (drop at old)) (take-append-drop at old)),
-)
+pub stays : (at : ℕ) (old : List ℕ) → at ≤ most → Lays at [] old old at
+stays at old h = record {
+  count = sym (ap counted (omega arith) ∙ min-eq-left h);
+  is = sym (rw (nothing (drop at old)) (take-append-drop at old));
+}
+
+-- from the front on the place is the count
+pub from-front : {n : ℕ} {xs old new : List ℕ} → Lays 0 xs old new n → n ≡ counted (length xs)
+from-front {n} {xs} p = p .count ∙ ap counted (zero-add (length xs))

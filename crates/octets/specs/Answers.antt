@@ -55,6 +55,12 @@ notAscii = 12
 abbrev pub noOutRoom : ℕ
 noOutRoom = 13
 
+abbrev pub badTable : ℕ
+badTable = 14
+
+abbrev pub unwritable : ℕ
+unwritable = 15
+
 -- the three numbers of a fold, of quoting and of the writer
 abbrev pub output : ℕ → ℕ → ℕ → Output
 output answer place length = record { answer = answer; place = place; length = length }

@@ -5,7 +5,7 @@ ghost use Prim.Native.Nat.{_+_, _≤_, min};
 ghost use lib.ListN.{length, getD, drop};
 ghost use lib.Dec.{ltb};
 ghost use Rattle.octets.specs.Bytes.{keyByte, lowered, other};
-ghost use Rattle.octets.specs.Laid.{laid, laidFrom, counted};
+ghost use Rattle.octets.specs.Laid.{laid, counted, Lays};
 ghost use Rattle.octets.specs.Answers.{roomAnswer};
 ghost use Rattle.octets.specs.Runs.{run};
 ghost use Rattle.octets.specs.Words.{sameBytes, startsWord};
@@ -47,6 +47,10 @@ pub const HAS_BREAK: u32 = 11;
 pub const NOT_ASCII: u32 = 12;
 
 pub const NO_OUT_ROOM: u32 = 13;
+
+pub const BAD_TABLE: u32 = 14;
+
+pub const UNWRITABLE: u32 = 15;
 
 // What a fold, quoting or the writer answers: on NO_OUT_ROOM the length is the one needed.
 pub struct Output {
@@ -181,13 +185,20 @@ pub fn put(bytes: &[u8], out: &mut [u8])
 // The largest number of 64 bits, where a count stops.
 const MOST: usize = 18_446_744_073_709_551_615;
 
+// A count goes on, as far as 64 bits go.
+pub fn count_on(count: usize, more: usize) -> usize
+    ensures { λ r. ⌜ r ≡ counted (count + more) ⌝ }
+{
+    count + least(more, MOST - count)
+}
+
 // Lays the bytes over the buffer from `at` on, as far as it goes, and counts them in full.
 pub fn lay(bytes: &[u8], out: &mut [u8], at: usize) -> usize
-    ensures { λ r. ⌜ (r ≡ counted (at + length (now (bytes .entry)))) × (now (out .exit) ≡ laidFrom at (now (bytes .entry)) (now (out .entry))) ⌝ }
+    ensures { λ r. ⌜ Lays at (now (bytes .entry)) (now (out .entry)) (now (out .exit)) r ⌝ }
 {
     let from = least(at, out.len());
     put(bytes, &mut out[from..]);
-    at + least(bytes.len(), MOST - at)
+    count_on(at, bytes.len())
 }
 
 // Whether so many bytes go into so much room: Done, or the length needed.

@@ -55,11 +55,17 @@ module _ (rest : List ℕ) (opens : getD rest 0 0 ≡ semicolon) (start : ℕ) (
 
 -- ---- where key and value lie
 
+abbrev pub valueLen : Value → ℕ
+valueLen Absent = 0
+valueLen (Present s) = s .len
+
 pub record Inside (rest : List ℕ) (p : Param) : Type 0 where
   pub some : 0 < p .used
   pub all : p .used ≤ length rest
   pub key : p .key .start + p .key .len ≤ p .used
   pub value : ValueWithin (p .value) (p .used)
+  -- they do not overlap
+  pub apart : p .key .len + valueLen (p .value) ≤ p .used
   -- every byte of the key is a key byte
   pub keyed : run keyByte (part rest (p .key .start) (p .key .len)) ≡ length (part rest (p .key .start) (p .key .len))
 
@@ -69,6 +75,12 @@ value-within at (Bare n) = omega arith
 value-within at (Quoted n) = omega arith
 value-within at (Listed n) = omega arith
 
+value-len : (at : ℕ) (form : Form) → valueLen (valueAt at form) ≤ formUsed form
+value-len at Nothing = omega arith
+value-len at (Bare n) = omega arith
+value-len at (Quoted n) = omega arith
+value-len at (Listed n) = omega arith
+
 module _ (rest : List ℕ) (opens : getD rest 0 0 ≡ semicolon) where
   inside-bare : Inside rest (withoutValue rest)
   inside-bare = record {
@@ -76,6 +88,7 @@ module _ (rest : List ℕ) (opens : getD rest 0 0 ≡ semicolon) where
     all = key-ends rest opens _ refl _ refl;
     key = omega arith;
     value = tt;
+    apart = omega arith;
     keyed = whole keyByte (drop (keyStart rest) rest);
   }
 
@@ -85,6 +98,7 @@ module _ (rest : List ℕ) (opens : getD rest 0 0 ≡ semicolon) where
     all = omega (arith, inside-of rest (keyEnd rest) e, form-le (drop (keyEnd rest + 1) rest), length-drop (keyEnd rest + 1) rest);
     key = omega arith;
     value = value-within (keyEnd rest + 1) (formOf (drop (keyEnd rest + 1) rest));
+    apart = omega (arith, value-len (keyEnd rest + 1) (formOf (drop (keyEnd rest + 1) rest)));
     keyed = whole keyByte (drop (keyStart rest) rest);
   }
 

@@ -1,4 +1,3 @@
-pub mod Runs
 pub mod Values
 pub mod Laws
 pub mod Lists

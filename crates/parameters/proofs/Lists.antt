@@ -15,7 +15,7 @@ use Rattle.parameters.specs.declared.Front.{Front}
 use Rattle.parameters.specs.declared.Front.the-variants.{NoParameter, Found}
 use Rattle.parameters.specs.Parameter.{frontOf}
 use Rattle.parameters.specs.Parameters.{valueMoved, moved, frontUsed, andLater, paramsAfter, paramsOf, paramsUsed, passed, passedOf}
-use Rattle.parameters.proofs.Laws.{found-is, found-inside}
+use Rattle.parameters.proofs.Laws.{valueLen, found-is, found-inside}
 
 -- the bytes of a parameter that has begun are passed over
 params-skip : (at k : ℕ) (xs : List ℕ) → paramsAfter at k xs ≡ paramsAfter (at + k) 0 (drop k xs)
@@ -89,6 +89,11 @@ map-used by (p ∷ ps) = ap (_+_ (p .used)) (map-used by ps)
 pub params-passed : (line : List ℕ) (at : ℕ) → passed (length (paramsOf line at)) (paramsUsed (paramsOf line at)) ≡ passedOf (drop at line)
 params-passed line at = rw (params-rest line at, length-map, map-used)
 
+pub used-moved : (by : ℕ) (xs : List ℕ) → paramsUsed (paramsAfter by 0 xs) ≡ paramsUsed (paramsOf xs 0)
+used-moved by xs =
+    let e : by + 0 ≡ by = omega arith in
+    ap paramsUsed (rw e at (params-moved by 0 0 xs)) ∙ map-used by (paramsAfter 0 0 xs)
+
 -- ---- how many bytes they take
 
 used-within : (at k : ℕ) (xs : List ℕ) → k ≤ length xs → k + paramsUsed (paramsAfter at k xs) ≤ length xs
@@ -115,6 +120,26 @@ used-few at zero (x ∷ xs) = go (frontOf (x ∷ xs)) refl (λ k. used-few (at +
     go NoParameter e ih = omega arith
     go (Found p) e ih = omega (arith, found-inside (x ∷ xs) e .some, ih (p .used - 1))
 used-few at (suc k) (x ∷ xs) = used-few (at + 1) k xs
+
+-- the bytes of their keys and values, of which none is counted twice
+unfoldable pub paramsLen : List Param → ℕ
+paramsLen [] = 0
+paramsLen (p ∷ ps) = p .key .len + valueLen (p .value) + paramsLen ps
+
+pub params-apart : (at k : ℕ) (xs : List ℕ) → paramsLen (paramsAfter at k xs) ≤ paramsUsed (paramsAfter at k xs)
+unfolding paramsAfter paramsUsed paramsLen
+params-apart at k [] = omega arith
+params-apart at zero (x ∷ xs) = go (frontOf (x ∷ xs)) refl (λ k. params-apart (at + 1) k xs)
+  where
+    same : (v : Value) → valueLen (valueMoved at v) ≡ valueLen v
+    same Absent = refl
+    same (Present s) = refl
+
+    go : (f : Front) → frontOf (x ∷ xs) ≡ f → ((k : ℕ) → paramsLen (paramsAfter (at + 1) k xs) ≤ paramsUsed (paramsAfter (at + 1) k xs))
+        → paramsLen (andLater f at (paramsAfter (at + 1) (frontUsed f - 1) xs)) ≤ paramsUsed (andLater f at (paramsAfter (at + 1) (frontUsed f - 1) xs))
+    go NoParameter e ih = omega arith
+    go (Found p) e ih = omega (arith, found-inside (x ∷ xs) e .apart, same (p .value), ih (p .used - 1))
+params-apart at (suc k) (x ∷ xs) = params-apart (at + 1) k xs
 
 pub params-within : (line : List ℕ) (at : ℕ) → at ≤ length line → at + paramsUsed (paramsOf line at) ≤ length line
 params-within line at h = omega (arith, used-within at 0 (drop at line) (omega arith), length-drop at line)

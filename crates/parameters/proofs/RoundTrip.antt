@@ -13,14 +13,13 @@ use Rattle.octets.specs.Choice.{pick}
 use Rattle.octets.specs.Bytes.{quote, comma, colon, semicolon, blank, keyByte, other, bare}
 use Rattle.octets.specs.Runs.{run}
 use Rattle.octets.specs.Views.{part}
-use Rattle.octets.proofs.Runs.{through, whole-head}
+use Rattle.octets.proofs.Runs.{no-run, ends-inside, through, whole-head, whole-wider}
 use Rattle.parameters.specs.declared.Form.{Form}
 use Rattle.parameters.specs.declared.Form.the-variants.{Nothing, Bare, Quoted, Listed}
 use Rattle.parameters.specs.declared.Value.the-variants.{Absent, Present}
 use Rattle.parameters.specs.declared.Front.the-variants.{Found}
 use Rattle.parameters.specs.Values.{insideLen, quotedLen, furtherAfter, furtherLen, formOf, formUsed, span, valueAt, listedAll, isList}
 use Rattle.parameters.specs.Parameter.{keyStart, param, frontOf}
-use Rattle.parameters.proofs.Runs.{run-none, run-short, run-wider}
 use Rattle.parameters.proofs.Values.{QuotedAt, quoted-is, quoted-has, quoted-none, quoted-room, quoted-le, further-bare, form-bare, form-quoted, form-listed}
 use Rattle.parameters.proofs.Laws.{front-bare, front-form}
 
@@ -57,8 +56,8 @@ key-no-blank x h = go (eqb x 32) (eqb x 9) refl refl
 
 -- no blank stands before the key, and before what follows an empty one
 key-starts : (k ys : List ℕ) → run keyByte k ≡ length k → blank (getD ys 0 colon) ≡ false → run blank (k ++ ys) ≡ 0
-key-starts [] ys keyed gap = run-none blank ys colon gap
-key-starts (x ∷ k) ys keyed gap = run-none blank (x ∷ (k ++ ys)) 0 (key-no-blank x (whole-head keyByte x k keyed))
+key-starts [] ys keyed gap = no-run blank ys colon gap
+key-starts (x ∷ k) ys keyed gap = no-run blank (x ∷ (k ++ ys)) 0 (key-no-blank x (whole-head keyByte x k keyed))
 
 key-next : (k ys : List ℕ) (d : ℕ) → getD (59 ∷ k ++ ys) (1 + length k) d ≡ getD ys 0 d
 key-next k ys d =
@@ -80,7 +79,7 @@ module _ (k : List ℕ) (keyed : run keyByte k ≡ length k) where
     starts = omega (arith, key-starts k ys keyed gap)
 
     runs : length k ≡ run keyByte (k ++ ys)
-    runs = omega (arith, through keyByte k ys keyed, run-none keyByte ys colon off)
+    runs = omega (arith, through keyByte k ys keyed, no-run keyByte ys colon off)
 
   -- an absent value: the key alone is written
   pub reads-absent : (tail : List ℕ) → Ends tail → Found (param (span 1 (length k)) Absent (1 + length k)) ≡ frontOf (59 ∷ k ++ tail)
@@ -114,13 +113,13 @@ form-plain (x ∷ v) tail some clean all e =
     form-bare (x ∷ (v ++ tail))
     (quoted-none _ (λ q. eqb-false x quote (not-true _ (whole-head (other quote) x v clean)) (q .opens)))
     (length (x ∷ v))
-    (omega (arith, through bare (x ∷ v) tail all, run-none bare tail colon e))
+    (omega (arith, through bare (x ∷ v) tail all, no-run bare tail colon e))
     (λ z. omega arith)
 
 form-wrapped : (v tail : List ℕ) → 0 < length v → run (other quote) v ≡ length v → Ends tail → Quoted (length v) ≡ formOf (quote ∷ v ++ (quote ∷ tail))
 form-wrapped v tail some clean e =
     let xs : List ℕ = quote ∷ (v ++ (quote ∷ tail)) in
-    let inside : insideLen xs ≡ length v = omega (arith, through (other quote) v (quote ∷ tail) clean, run-none (other quote) (quote ∷ tail) 0 refl) in
+    let inside : insideLen xs ≡ length v = omega (arith, through (other quote) v (quote ∷ tail) clean, no-run (other quote) (quote ∷ tail) 0 refl) in
     let next : 1 + length v ≡ suc (length v) = omega arith in
     let q : QuotedAt xs = record { opens = refl; inside = rw inside some; closes = rw (inside, next) (getD-append-seam v quote tail 0) } in
     let past : length v + 2 ≡ suc (length v + 1) = omega arith in
@@ -150,7 +149,7 @@ quoted-append : (v tail : List ℕ) → (quotedLen v ≡ 0 → ⊥) → quotedLe
 quoted-append [] tail some = absurd (some (omega (arith, quoted-le [])))
 quoted-append (x ∷ v) tail some =
     let q = quoted-has (x ∷ v) some in
-    let inside : insideLen (x ∷ (v ++ tail)) ≡ insideLen (x ∷ v) = run-short (other quote) v tail (omega (arith, quoted-room q)) in
+    let inside : insideLen (x ∷ (v ++ tail)) ≡ insideLen (x ∷ v) = ends-inside (other quote) v tail (omega (arith, quoted-room q)) in
     let closes : getD (x ∷ (v ++ tail)) (1 + insideLen (x ∷ (v ++ tail))) 0 ≡ quote = rw inside (List·getD-append (x ∷ v) tail 0 (1 + insideLen (x ∷ v)) (omega (arith, quoted-room q)) ∙ q .closes) in
     let long : QuotedAt (x ∷ (v ++ tail)) = record { opens = q .opens; inside = rw inside (q .inside); closes = closes } in
     quoted-is long ∙ rw inside (sym (quoted-is q))
@@ -249,7 +248,7 @@ written v some rule = go (isList v) (eqb (run ordinary v) (length v)) (eqb (run 
   where
     go : (a b c : Bool) → isList v ≡ a → eqb (run ordinary v) (length v) ≡ b → eqb (run (other quote) v) (length v) ≡ c → c || a ≡ true → Written v (pick (a || b) v (wrapped v))
     go true b c e f g q = list e
-    go false true true e f g q = plain some (eqb-true _ _ g) (run-wider ordinary bare ordinary-bare v (eqb-true _ _ f))
+    go false true true e f g q = plain some (eqb-true _ _ g) (whole-wider ordinary bare ordinary-bare v (eqb-true _ _ f))
     go false false true e f g q = inQuotes some (eqb-true _ _ g)
     go false true false e f g q = let z : _≡_ {A = ℕ} 0 1 = cc in absurd (omega arith)
     go false false false e f g q = let z : _≡_ {A = ℕ} 0 1 = cc in absurd (omega arith)

@@ -1,7 +1,7 @@
 // Quoting of a parameter value: what the writer sets in quotes, and what stays as it is.
 ghost use mathlib.Core.Path.{_≡_};
 ghost use lib.ListN.{length};
-ghost use Rattle.octets.specs.Laid.{laid, counted};
+ghost use Rattle.octets.specs.Laid.{Lays};
 ghost use Rattle.octets.specs.Runs.{only};
 ghost use Rattle.quoting.specs.Quoting.{plain, enclosed, wraps, quoted};
 ghost use Rattle.quoting.specs.Answers.{quoteAnswer, quoteOut};
@@ -41,7 +41,7 @@ pub fn wraps(value: &[u8]) -> bool
 
 // Lays the value, in quotes where it wants them, over the front of the buffer, and counts its bytes.
 fn lay_quoted(value: &[u8], out: &mut [u8]) -> usize
-    ensures { λ r. ⌜ (r ≡ counted (length (quoted (now (value .entry))))) × (now (out .exit) ≡ laid (quoted (now (value .entry))) (now (out .entry))) ⌝ }
+    ensures { λ r. ⌜ Lays 0 (quoted (now (value .entry))) (now (out .entry)) (now (out .exit)) r ⌝ }
 {
     if !wraps(value) {
         return octets::lay(value, out, 0);

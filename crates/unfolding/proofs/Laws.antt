@@ -86,11 +86,6 @@ pub cr-break-goes : (p b : ℕ) (ys : List ℕ) → blank b ≡ true → unfolde
 unfolding unfoldedAfter
 cr-break-goes p b ys h = rw (h, blank-no-lf b h) (after-blank b ys h)
 
--- and stays before any other byte
-pub break-stays : (ys : List ℕ) → blank (getD ys 0 0) ≡ false → unfolded (lf ∷ ys) ≡ lf ∷ unfolded ys
-unfolding unfoldedAfter
-break-stays ys h = rw h (ap (_∷_ lf) (fresh lf ys (rw h)))
-
 -- a line break that stays: what is before it and what is behind it unfold by themselves. Nothing is asked of xs
 pub line : (xs ys : List ℕ) → blank (getD ys 0 0) ≡ false → unfolded (xs ++ cr ∷ lf ∷ ys) ≡ unfolded xs ++ cr ∷ lf ∷ unfolded ys
 unfolding unfoldedAfter

@@ -2,18 +2,35 @@
 use borrow.Author.Needs.{needs}
 use lib.ListN.{length}
 use Rattle.octets.proofs.Answers.{kept, written}
+use Rattle.octets.proofs.Writing.{from-front}
 use Rattle.folding.specs.Repository.{repository}
 use Rattle.folding.proofs.Repository.{repository-length}
 use Rattle.folding.proofs.Answers.{refused, folded}
 use Rattle.folding.proofs.fold_line.Statement.{statement}
 use Rattle.folding.proofs.fold_line.Tie as tie
 
+-- what the proofs look back to
+abbrev start-of-refusal : tie.Then1 → tie.Start
+start-of-refusal c = c .before .before .before .before .before
+
+abbrev at-start : tie.Else1 → tie.Start
+at-start c = c .before .before .before .before .before
+
+abbrev fine : tie.Then2 → tie.Else1
+fine c = c .before .before .before .before .before .before
+
+abbrev after-room-for : tie.After-slice-known2 → tie.After-room-for
+after-room-for c = c .before .before .before .before .before .before
+
+abbrev after-fold-repository : tie.After-slice-known2 → tie.After-fold-repository
+after-fold-repository c = after-room-for c .before .before
+
 check-line-requires : tie.Need-check-line-requires
 check-line-requires c κs = search needs
 
 returns : tie.Need-returns
 returns c =
-    let a = c .before .before .before .before .before .args in
+    let a = start-of-refusal c .args in
     let line = a .line .now in
     let old = a .out .now in
     kept (refused repository line (length old) (c .before .before .check-line .ensures) (c .if1 .taken)) (repository line) old (c .if1 .taken)
@@ -29,10 +46,11 @@ room-for-requires c κs = search needs
 
 returns-2 : tie.Need-returns-2
 returns-2 c =
-    let s = c .before .before .before .before .before .before in
-    let line = s .before .before .before .before .before .args .line .now in
-    let old = s .before .before .before .before .before .args .out .now in
-    kept (folded repository line (length old) (s .before .before .check-line .ensures) (s .if1 .left) (repository-length line) (c .before .before .before .before .fold-repository .ensures .0) (c .before .before .room-for .ensures))
+    let s = fine c in
+    let line = at-start s .args .line .now in
+    let old = at-start s .args .out .now in
+    kept (folded repository line (length old) (s .before .before .check-line .ensures) (s .if1 .left) (repository-length line)
+    (from-front (c .before .before .before .before .fold-repository .ensures)) (c .before .before .room-for .ensures))
     (repository line) old (c .if2 .taken)
 
 fold-repository-requires-2 : tie.Need-fold-repository-requires-2
@@ -43,11 +61,12 @@ same-length c = search needs
 
 returns-3 : tie.Need-returns-3
 returns-3 c =
-    let s = c .before .before .before .before .before .before .before .before .before .before in
-    let line = s .before .before .before .before .before .args .line .now in
-    let old = s .before .before .before .before .before .args .out .now in
-    written (folded repository line (length old) (s .before .before .check-line .ensures) (s .if1 .left) (repository-length line) (c .before .before .before .before .before .before .before .before .fold-repository .ensures .0) (c .before .before .before .before .before .before .room-for .ensures))
-    (repository line) old (c .before .before .before .before .if2 .left) (c .before .before .fold-repository2 .ensures .1)
+    let s = after-fold-repository c .before .before in
+    let line = at-start s .args .line .now in
+    let old = at-start s .args .out .now in
+    written (folded repository line (length old) (s .before .before .check-line .ensures) (s .if1 .left) (repository-length line)
+    (from-front (after-fold-repository c .fold-repository .ensures)) (after-room-for c .room-for .ensures))
+    (repository line) old (c .before .before .before .before .if2 .left) (c .before .before .fold-repository2 .ensures .is)
 
 pub fold-line-spec : {M : Type 1} → statement M
 fold-line-spec =

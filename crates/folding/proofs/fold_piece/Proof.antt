@@ -6,6 +6,7 @@ use Rattle.folding.specs.declared.Column.{Column}
 use Rattle.folding.specs.declared.Folded.{Folded}
 use lib.ListN.{length}
 use borrow.Author.Needs.{needs}
+use Rattle.octets.proofs.Writing.{from-front}
 use Rattle.folding.proofs.Strict.{Folding, begin, turn, finish}
 use Rattle.folding.proofs.fold_piece.Statement.{statement}
 use Rattle.folding.proofs.fold_piece.Tie as tie
@@ -19,6 +20,16 @@ Inv-loop piece out₀ left₀ at₀ n₀ out left at n = Folding out₀ out piec
 
 abbrev μ-loop : tie.MeasureT-loop
 μ-loop piece out₀ left₀ at₀ n₀ out left at n = length piece - at + (1 - left)
+
+abbrev At : (tie.InvT-loop → tie.MeasureT-loop → Type 0) → Type 0
+At place = place Inv-loop μ-loop
+
+-- what the proofs look back to
+abbrev in-loop : At tie.After-slice-known2 → At tie.In-loop
+in-loop c = c .before .before .before .before .before
+
+abbrev after-loop : At tie.After-new → At tie.After-loop
+after-loop c = c .before .before .before .before .before .before
 
 loop-holds : tie.Need-loop-holds Inv-loop μ-loop
 loop-holds c = begin (c .before .before .args .out .now) (c .before .before .args .piece .now) (c .before .before .args .column .left)
@@ -46,7 +57,7 @@ loop-less c = omega arith
 
 loop-again : tie.Need-loop-again Inv-loop μ-loop
 loop-again c =
-    turn (c .before .before .before .before .before .before .loop .inv) (c .before .before .before .before .before .loop-test .taken) (omega arith)
+    turn (in-loop c .before .loop .inv) (in-loop c .loop-test .taken) (omega arith)
     (c .before .before .lay-line .ensures)
 
 sub-lay : tie.Need-sub-lay Inv-loop μ-loop
@@ -75,9 +86,9 @@ same-length c = search needs
 
 returns : tie.Need-returns Inv-loop μ-loop
 returns c =
-    let e = finish (c .before .before .before .before .before .before .before .loop .inv) (c .before .before .before .before .before .before .loop-test .left)
+    let e = finish (after-loop c .before .loop .inv) (after-loop c .loop-test .left)
     (c .before .before .before .lay .ensures) in
-    (same (c .new .ensures ∙ e .0) (e .1 .0), e .1 .1)
+    (same (c .new .ensures ∙ e .0) (from-front (e .1)), e .1 .is)
 
 pub fold-piece-spec : {M : Type 1} → statement M
 fold-piece-spec =

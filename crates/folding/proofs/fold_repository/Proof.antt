@@ -13,6 +13,19 @@ Inv-loop line out₀ width₀ at₀ n₀ out width at n = Cutting out₀ out lin
 abbrev μ-loop : tie.MeasureT-loop
 μ-loop line out₀ width₀ at₀ n₀ out width at n = length line - at
 
+abbrev At : (tie.InvT-loop → tie.MeasureT-loop → Type 0) → Type 0
+At place = place Inv-loop μ-loop
+
+-- what the proofs look back to
+abbrev after-cut-at : At tie.After-slice-known2 → At tie.After-cut-at
+after-cut-at c = c .before .before .before .before .before
+
+abbrev in-loop : At tie.After-slice-known2 → At tie.In-loop
+in-loop c = after-cut-at c .before .before
+
+abbrev after-loop : At tie.After-slice-known3 → At tie.After-loop
+after-loop c = c .before .before .before .before .before
+
 loop-holds : tie.Need-loop-holds Inv-loop μ-loop
 loop-holds c = begin (c .before .before .args .out .now) (c .before .before .args .line .now)
 
@@ -47,11 +60,11 @@ lay-line-requires : tie.Need-lay-line-requires Inv-loop μ-loop
 lay-line-requires c κs = tt
 
 loop-less : tie.Need-loop-less Inv-loop μ-loop
-loop-less c = omega (arith, some (c .before .before .before .before .before .before .before .before .loop .inv) (c .before .before .before .before .before .before .before .loop-test .taken) (c .before .before .before .before .before .cut-at .ensures))
+loop-less c = omega (arith, some (in-loop c .before .loop .inv) (in-loop c .loop-test .taken) (after-cut-at c .cut-at .ensures))
 
 loop-again : tie.Need-loop-again Inv-loop μ-loop
 loop-again c =
-    turn (c .before .before .before .before .before .before .before .before .loop .inv) (c .before .before .before .before .before .before .before .loop-test .taken) (c .before .before .before .before .before .cut-at .ensures) (omega arith)
+    turn (in-loop c .before .loop .inv) (in-loop c .loop-test .taken) (after-cut-at c .cut-at .ensures) (omega arith)
     (c .before .before .lay-line .ensures)
 
 sub-lay : tie.Need-sub-lay Inv-loop μ-loop
@@ -70,7 +83,7 @@ same-length : tie.Need-same-length Inv-loop μ-loop
 same-length c = search needs
 
 returns : tie.Need-returns Inv-loop μ-loop
-returns c = finish (c .before .before .before .before .before .before .loop .inv) (c .before .before .before .before .before .loop-test .left) (c .before .before .lay .ensures)
+returns c = finish (after-loop c .before .loop .inv) (after-loop c .loop-test .left) (c .before .before .lay .ensures)
 
 pub fold-repository-spec : {M : Type 1} → statement M
 fold-repository-spec =

@@ -10,12 +10,22 @@ use Rattle.folding.proofs.Answers.{refused, folded}
 use Rattle.folding.proofs.fold_strict.Statement.{statement}
 use Rattle.folding.proofs.fold_strict.Tie as tie
 
+-- what the proofs look back to
+abbrev start-of-refusal : tie.Then1 → tie.Start
+start-of-refusal c = c .before .before .before .before .before
+
+abbrev at-start : tie.Else1 → tie.Start
+at-start c = c .before .before .before .before .before
+
+abbrev after-new : tie.Then2 → tie.After-new
+after-new c = c .before .before .before .before .before .before
+
 check-line-requires : tie.Need-check-line-requires
 check-line-requires c κs = search needs
 
 returns : tie.Need-returns
 returns c =
-    let a = c .before .before .before .before .before .args in
+    let a = start-of-refusal c .args in
     let line = a .line .now in
     let old = a .out .now in
     kept (refused strict line (length old) (c .before .before .check-line .ensures) (c .if1 .taken)) (strict line) old (c .if1 .taken)
@@ -34,10 +44,10 @@ room-for-requires c κs = search needs
 
 returns-2 : tie.Need-returns-2
 returns-2 c =
-    let s = c .before .before .before .before .before .before .before in
-    let line = s .before .before .before .before .before .args .line .now in
-    let old = s .before .before .before .before .before .args .out .now in
-    let n = rw (c .before .before .before .before .before .before .new .ensures) at (ap (λ (f : Folded). f .length) (c .before .before .before .before .fold-piece .ensures .0)) in
+    let s = after-new c .before in
+    let line = at-start s .args .line .now in
+    let old = at-start s .args .out .now in
+    let n = rw (after-new c .new .ensures) at (ap (λ (f : Folded). f .length) (c .before .before .before .before .fold-piece .ensures .0)) in
     kept (folded strict line (length old) (s .before .before .check-line .ensures) (s .if1 .left) (fold-length first line) n (c .before .before .room-for .ensures))
     (strict line) old (c .if2 .taken)
 
@@ -49,12 +59,16 @@ same-length c = search needs
 
 returns-3 : tie.Need-returns-3
 returns-3 c =
-    let s = c .before .before .before .before .before .before .before .before .before .before .before in
-    let line = s .before .before .before .before .before .args .line .now in
-    let old = s .before .before .before .before .before .args .out .now in
-    let n = rw (c .before .before .before .before .before .before .before .before .before .before .new .ensures) at (ap (λ (f : Folded). f .length) (c .before .before .before .before .before .before .before .before .fold-piece .ensures .0)) in
-    written (folded strict line (length old) (s .before .before .check-line .ensures) (s .if1 .left) (fold-length first line) n (c .before .before .before .before .before .before .room-for .ensures))
-    (strict line) old (c .before .before .before .before .if2 .left) (rw (c .before .before .before .before .before .before .before .before .before .before .new .ensures) at (c .before .before .fold-piece2 .ensures .1))
+    let e = c .before .before .before .before in
+    let o = e .before .before .before .before in
+    let w = o .before .before in
+    let h = w .before .before .before in
+    let s = w .before in
+    let line = h .before .before .before .args .line .now in
+    let old = h .before .before .before .args .out .now in
+    let n = rw (w .new .ensures) at (ap (λ (f : Folded). f .length) (o .fold-piece .ensures .0)) in
+    written (folded strict line (length old) (h .check-line .ensures) (s .if1 .left) (fold-length first line) n (e .before .before .room-for .ensures))
+    (strict line) old (e .if2 .left) (rw (w .new .ensures) at (c .before .before .fold-piece2 .ensures .1))
 
 pub fold-strict-spec : {M : Type 1} → statement M
 fold-strict-spec =

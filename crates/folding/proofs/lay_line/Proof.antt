@@ -2,9 +2,12 @@
 use borrow.Author.Needs.{needs}
 use native.Mathlib.Omega.{arith}
 use Rattle.octets.proofs.Writing.{both}
-use Rattle.folding.specs.Pieces.{brk}
 use Rattle.folding.proofs.lay_line.Statement.{statement}
 use Rattle.folding.proofs.lay_line.Tie as tie
+
+-- what the proofs look back to
+abbrev after-lay : tie.After-slice-known3 → tie.After-lay
+after-lay c = c .before .before .before .before .before .before .before
 
 lay-requires : tie.Need-lay-requires
 lay-requires c κs = search needs
@@ -20,9 +23,8 @@ same-length c = search needs
 
 returns : tie.Need-returns
 returns c =
-    let l = c .before .before .before .before .before .before .before .lay in
-    let s = c .before .before .before .before .before .before .before .before .before .before .before in
-    both (s .args .at) (s .args .piece .now) brk (s .args .out .now) (omega arith) (l .ensures .0) (l .ensures .1) (c .before .before .lay2 .ensures .0) (c .before .before .lay2 .ensures .1)
+    let l = after-lay c .lay in
+    both (l .ensures) (c .before .before .lay2 .ensures) (omega arith)
 
 pub lay-line-spec : {M : Type 1} → statement M
 lay-line-spec =

@@ -9,6 +9,10 @@ use borrow.Author.Needs.{needs}
 use Rattle.lines.proofs.line_at.Statement.{statement}
 use Rattle.lines.proofs.line_at.Tie as tie
 
+-- what the proofs look back to
+abbrev at-start : tie.After-shared-slice-known2 → tie.Start
+at-start c = c .before .before .before .before .before
+
 find-near-requires : tie.Need-find-near-requires
 find-near-requires c κs = search needs
 
@@ -39,9 +43,10 @@ add-t12 : tie.Need-add-t12
 add-t12 c = search needs
 
 returns-3 : tie.Need-returns-3
-returns-3 c = let s = c .before .before .before .before .before .before .args in
+returns-3 c = let s = at-start (c .before) .args in
     let e = c .before .before .before .before .find-near in
-    cr-break (s .at) (drop (s .at) (s .text .now)) (e .result) (e .ensures) (rw length-drop (omega arith)) (before-break (s .text .now) (s .at) (toBreak (drop (s .at) (s .text .now))) (e .result) (e .ensures) (omega arith) ∙ c .if3 .taken)
+    cr-break (s .at) (drop (s .at) (s .text .now)) (e .result) (e .ensures) (rw length-drop (omega arith))
+    (before-break (s .text .now) (s .at) (toBreak (drop (s .at) (s .text .now))) (e .result) (e .ensures) (omega arith) ∙ c .if3 .taken)
 
 sub-t5 : tie.Need-sub-t5
 sub-t5 c = search needs
@@ -50,9 +55,10 @@ add-t13 : tie.Need-add-t13
 add-t13 c = search needs
 
 returns-4 : tie.Need-returns-4
-returns-4 c = let s = c .before .before .before .before .before .before .args in
+returns-4 c = let s = at-start (c .before) .args in
     let e = c .before .before .before .before .find-near in
-    lf-break (s .at) (drop (s .at) (s .text .now)) (e .result) (e .ensures) (rw length-drop (omega arith)) (λ q. c .if3 .left (sym (before-break (s .text .now) (s .at) (toBreak (drop (s .at) (s .text .now))) (e .result) (e .ensures) (omega arith)) ∙ q))
+    lf-break (s .at) (drop (s .at) (s .text .now)) (e .result) (e .ensures) (rw length-drop (omega arith))
+    (λ q. c .if3 .left (sym (before-break (s .text .now) (s .at) (toBreak (drop (s .at) (s .text .now))) (e .result) (e .ensures) (omega arith)) ∙ q))
 
 pub line-at-spec : {M : Type 1} → statement M
 line-at-spec =

@@ -1,6 +1,7 @@
 -- `lines::property_line`: by its key, and by what stands behind its parameters.
 -- Assumes nothing.
-use Prim.Native.Nat.{_≤_, _+_}
+use mathlib.Core.List.{List}
+use Prim.Native.Nat.{ℕ, _≤_, _+_}
 use mathlib.Core.Path.{_≡_, sym, _∙_}
 use native.Mathlib.Omega.{arith}
 use lib.ListN.{length, drop}
@@ -13,25 +14,32 @@ use Rattle.lines.proofs.Rule.{refused-key, empty-key, key-within, passe
 use Rattle.lines.proofs.property_line.Statement.{statement}
 use Rattle.lines.proofs.property_line.Tie as tie
 
+-- what the proofs look back to
+abbrev line-of : tie.Else1 → List ℕ
+line-of c = c .before .before .before .before .before .before .args .line .now
+
+abbrev after-n : tie.After-struct-known → tie.After-n
+after-n c = c .before .before .before .before .before
+
 -- the key is a run, and within the line
 key : (c : tie.Else1) → let a = c .before .before .before .before in keyOf (a .before .before .args .line .now) ≡ Run (c .before .before .n .given .0 .0)
 key c = sym (c .before .before .before .before .property-key .ensures) ∙ c .before .before .n .given .1
 
-within : (c : tie.Else1) → c .before .before .n .given .0 .0 ≤ length (c .before .before .before .before .before .before .args .line .now)
-within c = key-within (c .before .before .before .before .before .before .args .line .now) (c .before .before .n .given .0 .0) (key c)
+within : (c : tie.Else1) → c .before .before .n .given .0 .0 ≤ length (line-of c)
+within c = key-within (line-of c) (c .before .before .n .given .0 .0) (key c)
 
 -- and so are the parameters behind it
 passed : (c : tie.After-struct-known) →
     let k = c .before .before .before in
-    c .before .parameters .result ≡ passedOf (drop (k .before .before .n .given .0 .0) (k .before .before .before .before .before .before .args .line .now))
+    c .before .parameters .result ≡ passedOf (drop (after-n c .n .given .0 .0) (line-of k))
 passed c = rw lent at (c .before .parameters .ensures)
 
 inside : (c : tie.After-struct-known) →
     let k = c .before .before .before in
-    k .before .before .n .given .0 .0 + c .before .parameters .result .used ≤ length (k .before .before .before .before .before .before .args .line .now)
+    after-n c .n .given .0 .0 + c .before .parameters .result .used ≤ length (line-of k)
 inside c =
     let k = c .before .before .before in
-    passed-within (k .before .before .before .before .before .before .args .line .now) (k .before .before .n .given .0 .0) (c .before .parameters .result) (within k) (passed c)
+    passed-within (line-of k) (after-n c .n .given .0 .0) (c .before .parameters .result) (within k) (passed c)
 
 property-key-requires : tie.Need-property-key-requires
 property-key-requires c κs = search needs
@@ -72,7 +80,7 @@ returns-3 : tie.Need-returns-3
 returns-3 c =
     let p = c .before in
     let k = p .before .before .before in
-    sym (at-end (k .before .before .before .before .before .before .args .line .now) (k .before .before .n .given .0 .0) (p .before .parameters .result) (key k) (k .if1 .left) (passed p) (c .if2 .taken))
+    sym (at-end (line-of k) (after-n p .n .given .0 .0) (p .before .parameters .result) (key k) (k .if1 .left) (passed p) (c .if2 .taken))
 
 shared-slice-read-if3 : tie.Need-shared-slice-read-if3
 shared-slice-read-if3 c = omega (arith, inside (c .before .before))
@@ -81,7 +89,7 @@ returns-4 : tie.Need-returns-4
 returns-4 c =
     let p = c .before .before .before in
     let k = p .before .before .before in
-    sym (stray (k .before .before .before .before .before .before .args .line .now) (k .before .before .n .given .0 .0) (p .before .parameters .result) (key k) (k .if1 .left) (passed p) (c .before .before .if2 .left) (c .if3 .taken))
+    sym (stray (line-of k) (after-n p .n .given .0 .0) (p .before .parameters .result) (key k) (k .if1 .left) (passed p) (c .before .before .if2 .left) (c .if3 .taken))
 
 add-start : tie.Need-add-start
 add-start c = omega (arith, inside (c .before .before .before))
@@ -93,7 +101,7 @@ returns-5 : tie.Need-returns-5
 returns-5 c =
     let p = c .before .before .before in
     let k = p .before .before .before in
-    sym (valued (k .before .before .before .before .before .before .args .line .now) (k .before .before .n .given .0 .0) (p .before .parameters .result) (key k) (k .if1 .left) (passed p) (c .before .before .if2 .left) (c .if3 .left))
+    sym (valued (line-of k) (after-n p .n .given .0 .0) (p .before .parameters .result) (key k) (k .if1 .left) (passed p) (c .before .before .if2 .left) (c .if3 .left))
 
 pub property-line-spec : {M : Type 1} → statement M
 property-line-spec =

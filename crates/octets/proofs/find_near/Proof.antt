@@ -16,6 +16,16 @@ Inv-loop a from b i₀ left₀ i left = (i + left ≤ length a) × (i + run (oth
 abbrev μ-loop : tie.MeasureT-loop
 μ-loop a from b i₀ left₀ i left = left
 
+abbrev At : (tie.InvT-loop → tie.MeasureT-loop → Type 0) → Type 0
+At place = place Inv-loop μ-loop
+
+-- what the proofs look back to
+abbrev start-at-mark : At tie.After-first-mark → At tie.Start
+start-at-mark c = c .before .before .before .before .before .before .before .before
+
+abbrev start-in-turn : At tie.Else2 → At tie.Start
+start-in-turn c = c .before .before .before .before .before .before .before
+
 returns : tie.Need-returns Inv-loop μ-loop
 returns c = let s = c .before .before .args in omega (arith, ended (other (s .b)) (s .a .now) (s .from) (omega arith))
 
@@ -35,11 +45,11 @@ first-mark-requires : tie.Need-first-mark-requires Inv-loop μ-loop
 first-mark-requires c κs = tt
 
 add-result : tie.Need-add-result Inv-loop μ-loop
-add-result c = let s = c .before .before .before .before .before .before .before .before .args in let m = c .before .before .marks-of in
+add-result c = let s = start-at-mark c .args in let m = c .before .before .marks-of in
     omega (arith, c .first-mark .ensures, at-most (other (s .b)) (s .a .now) (c .before .before .before .before .loop .i) (omega arith) (m .result) (m .ensures))
 
 returns-2 : tie.Need-returns-2 Inv-loop μ-loop
-returns-2 c = let s = c .before .before .before .before .before .before .before .before .args in let m = c .before .before .marks-of in
+returns-2 c = let s = start-at-mark c .args in let m = c .before .before .marks-of in
     omega (arith, c .first-mark .ensures, ends-here (other (s .b)) (s .a .now) (c .before .before .before .before .loop .i) (omega arith) (m .result) (m .ensures) (c .before .if2 .taken))
 
 add-i : tie.Need-add-i Inv-loop μ-loop
@@ -49,7 +59,7 @@ loop-less : tie.Need-loop-less Inv-loop μ-loop
 loop-less c = omega arith
 
 loop-again : tie.Need-loop-again Inv-loop μ-loop
-loop-again c = let s = c .before .before .before .before .before .before .before .args in let m = c .before .marks-of in
+loop-again c = let s = start-in-turn c .args in let m = c .before .marks-of in
     (omega arith, omega (arith, goes-on (other (s .b)) (s .a .now) (c .before .before .before .loop .i) (omega arith) (m .result) (m .ensures) (c .if2 .left)))
 
 find-byte-requires : tie.Need-find-byte-requires Inv-loop μ-loop

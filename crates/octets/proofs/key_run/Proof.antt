@@ -1,29 +1,36 @@
 -- `octets::key_run`: the bytes passed and the run from here on make the whole run.
-use Prim.Native.Nat.{ℕ, _≤_, _<_, _+_, _-_}
-use mathlib.Core.Path.{_≡_, refl, sym, ap, _∙_}
-use mathlib.Core.Bool.{not, true, false}
+use mathlib.Core.List.{List}
+use Prim.Native.Nat.{ℕ, _-_}
+use mathlib.Core.Path.{_≡_, sym, _∙_}
+use mathlib.Core.Bool.{true, false}
 use native.Mathlib.Omega.{arith}
-use lib.ListN.{length, getD, drop}
+use lib.ListN.{length, getD}
 use borrow.Author.Needs.{needs}
 use borrow.Author.Tests.{not-true, not-false}
 use Rattle.octets.specs.Bytes.{keyByte}
-use Rattle.octets.specs.Runs.{run}
 use Rattle.octets.proofs.KeyTable.{rule}
-use Rattle.octets.proofs.Runs.{on, stop, ended}
+use Rattle.octets.proofs.Runs.{Ran, ran-all, ran-more, ran-end}
 use Rattle.octets.proofs.key_run.Statement.{statement}
 use Rattle.octets.proofs.key_run.Tie as tie
 
 abbrev Inv-loop : tie.InvT-loop
-Inv-loop line table i₀ i = (i ≤ length line) × (i + run keyByte (drop i line) ≡ run keyByte line)
+Inv-loop line table i₀ i = Ran keyByte line i
 
 abbrev μ-loop : tie.MeasureT-loop
 μ-loop line table i₀ i = length line - i
+
+abbrev At : (tie.InvT-loop → tie.MeasureT-loop → Type 0) → Type 0
+At place = place Inv-loop μ-loop
+
+-- what the proofs look back to
+abbrev line-of : At tie.After-shared-slice-known2 → List ℕ
+line-of c = c .before .before .before .before .before .args .line .now
 
 skip-capitals-requires : tie.Need-skip-capitals-requires Inv-loop μ-loop
 skip-capitals-requires c κs = search needs
 
 loop-holds : tie.Need-loop-holds Inv-loop μ-loop
-loop-holds c = c .skip-capitals .ensures
+loop-holds c = record { inside = c .skip-capitals .ensures .0; left = c .skip-capitals .ensures .1 }
 
 shared-slice-read-b : tie.Need-shared-slice-read-b Inv-loop μ-loop
 shared-slice-read-b c = omega arith
@@ -35,10 +42,10 @@ array-read-if1 : tie.Need-array-read-if1 Inv-loop μ-loop
 array-read-if1 c = omega (arith, c .shared-slice-known2 .given (c .before .before .loop .i))
 
 returns : tie.Need-returns Inv-loop μ-loop
-returns c = let line = c .before .before .before .before .before .before .args .line .now in let i = c .before .before .before .loop .i in
+returns c = let line = line-of (c .before) in let i = c .before .before .before .loop .i in
     let b = getD line i 0 in
     let e : keyByte b ≡ false = sym (rule b (omega (arith, c .before .shared-slice-known2 .given i))) ∙ not-true _ (c .if1 .taken) in
-    omega (arith, stop keyByte line i (omega arith) e)
+    ran-end (c .before .before .before .loop .inv) (c .before .before .loop-test .taken) e
 
 add-i : tie.Need-add-i Inv-loop μ-loop
 add-i c = omega arith
@@ -47,13 +54,13 @@ loop-less : tie.Need-loop-less Inv-loop μ-loop
 loop-less c = omega arith
 
 loop-again : tie.Need-loop-again Inv-loop μ-loop
-loop-again c = let line = c .before .before .before .before .before .before .args .line .now in let i = c .before .before .before .loop .i in
+loop-again c = let line = line-of (c .before) in let i = c .before .before .before .loop .i in
     let b = getD line i 0 in
     let e : keyByte b ≡ true = sym (rule b (omega (arith, c .before .shared-slice-known2 .given i))) ∙ not-false _ (c .if1 .left) in
-    (omega arith, omega (arith, on keyByte line i (omega arith) e))
+    ran-more (c .before .before .before .loop .inv) (c .before .before .loop-test .taken) e
 
 returns-2 : tie.Need-returns-2 Inv-loop μ-loop
-returns-2 c = omega (arith, ended keyByte (c .before .before .before .before .args .line .now) (c .before .loop .i) (omega arith))
+returns-2 c = ran-all (c .before .loop .inv) (c .loop-test .left)
 
 pub key-run-spec : {M : Type 1} → statement M
 key-run-spec =

@@ -22,27 +22,24 @@ part-put-end c = search needs
 put-requires : tie.Need-put-requires
 put-requires c κs = search needs
 
-sub-least : tie.Need-sub-least
-sub-least c = search needs
-
-least-requires-2 : tie.Need-least-requires-2
-least-requires-2 c κs = search needs
-
-add-result : tie.Need-add-result
-add-result c = search needs
+count-on-requires : tie.Need-count-on-requires
+count-on-requires c κs = search needs
 
 same-length : tie.Need-same-length
 same-length c = search needs
 
 returns : tie.Need-returns
 returns c =
-    let s = c .before .before .before .before .before .before .before .before in
-    let l = c .before .before .before .before .before .least in
-    let old = s .args .out .now in (
-      omega (arith, c .least2 .ensures),
-      lent-back (l .result) (s .args .bytes .now) old (c .before .before .before .put .ensures)
-          ∙ rw (l .ensures) (at-most (s .args .at) (length old) (s .args .bytes .now) old (omega arith)),
-    )
+    let p = c .before .before .before in
+    let e = p .before .before in
+    let s = e .before .before .before in
+    let l = e .least in
+    let old = s .args .out .now in
+    record {
+      count = c .count-on .ensures;
+      is = lent-back (l .result) (s .args .bytes .now) old (p .put .ensures)
+          ∙ rw (l .ensures) (at-most (s .args .at) (length old) (s .args .bytes .now) old (omega arith));
+    }
 
 pub lay-spec : {M : Type 1} → statement M
 lay-spec =
@@ -53,8 +50,6 @@ lay-spec =
     part-put-start
     part-put-end
     put-requires
-    sub-least
-    least-requires-2
-    add-result
+    count-on-requires
     same-length
     returns)

@@ -1,4 +1,6 @@
 -- `octets::property_key`: refused by the two words, else the run.
+use Prim.Native.Nat.{ℕ}
+use mathlib.Core.List.{List}
 use mathlib.Core.Path.{_≡_, sym, ap, _∙_}
 use mathlib.Core.Bool.{true, false}
 use mathlib.Core.Logic.{⊎-elim}
@@ -8,6 +10,10 @@ use Rattle.octets.proofs.Keys.{refused, taken, not-reserved}
 use borrow.Author.Needs.{needs}
 use Rattle.octets.proofs.property_key.Statement.{statement}
 use Rattle.octets.proofs.property_key.Tie as tie
+
+-- what the proofs look back to
+abbrev line-of : tie.Then2 → List ℕ
+line-of c = c .before .before .before .before .before .before .before .before .args .line .now
 
 may-be-reserved-requires : tie.Need-may-be-reserved-requires
 may-be-reserved-requires c κs = search needs
@@ -25,7 +31,7 @@ stands-alone-requires-2 : tie.Need-stands-alone-requires-2
 stands-alone-requires-2 c κs = search needs
 
 returns : tie.Need-returns
-returns c = let line = c .before .before .before .before .before .before .before .before .args .line .now in
+returns c = let line = line-of c in
     let e : reserved line ≡ true = cc in
     sym (refused line e)
 

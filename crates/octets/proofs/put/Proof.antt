@@ -16,6 +16,13 @@ Inv-loop bytes out₀ n i₀ out i = (i ≤ n) × ((length out ≡ length out₀
 abbrev μ-loop : tie.MeasureT-loop
 μ-loop bytes out₀ n i₀ out i = n - i
 
+abbrev At : (tie.InvT-loop → tie.MeasureT-loop → Type 0) → Type 0
+At place = place Inv-loop μ-loop
+
+-- what the proofs look back to
+abbrev at-start : At tie.After-loop → At tie.Start
+at-start c = c .before .before .before .before .before
+
 least-requires : tie.Need-least-requires Inv-loop μ-loop
 least-requires c κs = tt
 
@@ -35,14 +42,22 @@ loop-less : tie.Need-loop-less Inv-loop μ-loop
 loop-less c = omega arith
 
 loop-again : tie.Need-loop-again Inv-loop μ-loop
-loop-again c = let s = c .before .before .before .before .before .before .args in let i = c .before .before .loop .i in
-    (omega arith, (rw length-set (c .before .before .loop .inv .1 .0), store (s .bytes .now) (c .before .before .loop .out) i (c .before .before .before .least .result) (c .before .loop-test .taken) (omega (arith, c .before .before .before .least .ensures)) ∙ c .before .before .loop .inv .1 .1))
+loop-again c =
+    let l = c .before .before in
+    let s = l .before .before .before .before .args in let i = l .loop .i in (
+      omega arith,
+      (
+        rw length-set (l .loop .inv .1 .0),
+        store (s .bytes .now) (l .loop .out) i (l .before .least .result) (c .before .loop-test .taken) (omega (arith, l .before .least .ensures))
+            ∙ l .loop .inv .1 .1,
+      ),
+    )
 
 same-length : tie.Need-same-length Inv-loop μ-loop
 same-length c = c .before .loop .inv .1 .0
 
 returns : tie.Need-returns Inv-loop μ-loop
-returns c = let s = c .before .before .before .before .before .args in
+returns c = let s = at-start c .args in
     all-stored (s .bytes .now) (s .out .now) (c .before .loop .out) (c .before .loop .i) (c .before .before .least .result)
     (c .before .before .least .ensures) (omega arith) (c .before .loop .inv .1 .1)
 

@@ -28,8 +28,10 @@ shared-slice-read-if2-2 : tie.Need-shared-slice-read-if2-2 Inv-loop μ-loop
 shared-slice-read-if2-2 c = omega arith
 
 returns-2 : tie.Need-returns-2 Inv-loop μ-loop
-returns-2 c = let s = c .before .before .before .before .before .before .args in let i = c .before .before .before .before .loop .i in
-    sym (sym (c .before .before .before .before .loop .inv .1) ∙ same-turn (s .a .now) (s .b .now) i (omega arith) (omega arith) ∙ rw (ne-eqb (getD (s .a .now) i 0) (getD (s .b .now) i 0) (c .if2 .taken)))
+returns-2 c =
+    let l = c .before .before .before .before in
+    let s = l .before .before .args in let i = l .loop .i in
+    sym (sym (l .loop .inv .1) ∙ same-turn (s .a .now) (s .b .now) i (omega arith) (omega arith) ∙ rw (ne-eqb (getD (s .a .now) i 0) (getD (s .b .now) i 0) (c .if2 .taken)))
 
 add-i : tie.Need-add-i Inv-loop μ-loop
 add-i c = omega arith
@@ -38,8 +40,10 @@ loop-less : tie.Need-loop-less Inv-loop μ-loop
 loop-less c = omega arith
 
 loop-again : tie.Need-loop-again Inv-loop μ-loop
-loop-again c = let s = c .before .before .before .before .before .before .args in let i = c .before .before .before .before .loop .i in
-    (omega arith, sym (same-turn (s .a .now) (s .b .now) i (omega arith) (omega arith) ∙ rw (eq-eqb (getD (s .a .now) i 0) (getD (s .b .now) i 0) (c .if2 .left))) ∙ c .before .before .before .before .loop .inv .1)
+loop-again c =
+    let l = c .before .before .before .before in
+    let s = l .before .before .args in let i = l .loop .i in
+    (omega arith, sym (same-turn (s .a .now) (s .b .now) i (omega arith) (omega arith) ∙ rw (eq-eqb (getD (s .a .now) i 0) (getD (s .b .now) i 0) (c .if2 .left))) ∙ l .loop .inv .1)
 
 returns-3 : tie.Need-returns-3 Inv-loop μ-loop
 returns-3 c = let s = c .before .before .before .args in sym (same-ended (s .a .now) (s .b .now) (c .before .loop .i) (omega arith) (omega arith)) ∙ c .before .loop .inv .1

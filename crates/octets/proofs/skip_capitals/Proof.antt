@@ -1,4 +1,5 @@
 -- `octets::skip_capitals`: the bytes passed and the run from here on make the whole run.
+use mathlib.Core.List.{List}
 use Prim.Native.Nat.{ℕ, _≤_, _<_, _+_, _-_}
 use mathlib.Core.Path.{_≡_, refl, sym, ap, _∙_}
 use mathlib.Core.Bool.{true}
@@ -22,6 +23,16 @@ Inv-loop line i₀ left₀ i left = (i + left ≡ length line) × (i + run keyBy
 abbrev μ-loop : tie.MeasureT-loop
 μ-loop line i₀ left₀ i left = left
 
+abbrev At : (tie.InvT-loop → tie.MeasureT-loop → Type 0) → Type 0
+At place = place Inv-loop μ-loop
+
+-- what the proofs look back to
+abbrev line-of : At tie.After-first-mark → List ℕ
+line-of c = c .before .before .before .before .before .before .args .line .now
+
+abbrev line-in-turn : At tie.Else1 → List ℕ
+line-in-turn c = c .before .before .before .before .before .args .line .now
+
 loop-holds : tie.Need-loop-holds Inv-loop μ-loop
 loop-holds c = (zero-add _, zero-add _)
 
@@ -32,24 +43,24 @@ first-mark-requires : tie.Need-first-mark-requires Inv-loop μ-loop
 first-mark-requires c κs = search needs
 
 -- as many capital letters stand at i as bytes before the first mark
-here : (c : tie.After-first-mark Inv-loop μ-loop) → let line = c .before .before .before .before .before .before .args .line .now in
+here : (c : At tie.After-first-mark) → let line = line-of c in
     run capital (drop (c .before .before .before .before .loop .i) line) ≡ c .first-mark .result
 here c =
-    let line = c .before .before .before .before .before .before .args .line .now in
+    let line = line-of c in
     let m = c .before .before .marks-of-others in
     ends-here capital line (c .before .before .before .before .loop .i) (omega arith) (m .result) (m .ensures) (c .before .if1 .taken) ∙ sym (c .first-mark .ensures)
 
-fits : (c : tie.After-first-mark Inv-loop μ-loop) → let line = c .before .before .before .before .before .before .args .line .now in
+fits : (c : At tie.After-first-mark) → let line = line-of c in
     c .before .before .before .before .loop .i + c .first-mark .result ≤ length line
 fits c =
-    let line = c .before .before .before .before .before .before .args .line .now in let i = c .before .before .before .before .loop .i in
+    let line = line-of c in let i = c .before .before .before .before .loop .i in
     omega (arith, here c, within capital (drop i line), length-drop i line)
 
 add-result : tie.Need-add-result Inv-loop μ-loop
 add-result c = omega (arith, fits c)
 
 returns : tie.Need-returns Inv-loop μ-loop
-returns c = let line = c .before .before .before .before .before .before .args .line .now in let i = c .before .before .before .before .loop .i in
+returns c = let line = line-of c in let i = c .before .before .before .before .loop .i in
     (fits c, omega (arith, wider-at capital keyByte key line i (c .first-mark .result) (omega (arith, here c))))
 
 add-i : tie.Need-add-i Inv-loop μ-loop
@@ -59,7 +70,7 @@ loop-less : tie.Need-loop-less Inv-loop μ-loop
 loop-less c = omega arith
 
 loop-again : tie.Need-loop-again Inv-loop μ-loop
-loop-again c = let line = c .before .before .before .before .before .args .line .now in let i = c .before .before .before .loop .i in
+loop-again c = let line = line-in-turn c in let i = c .before .before .before .loop .i in
     let m = c .before .marks-of-others in
     let on = goes-on capital line i (omega arith) (m .result) (m .ensures) (c .if1 .left) in
     (omega arith, omega (arith, wider-at capital keyByte key line i 8 (omega (arith, on))))

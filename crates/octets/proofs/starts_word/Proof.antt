@@ -19,11 +19,24 @@ Inv-loop word line i₀ i = (i ≤ length word) × (startsWord (drop i word) (dr
 abbrev μ-loop : tie.MeasureT-loop
 μ-loop word line i₀ i = length word - i
 
+abbrev At : (tie.InvT-loop → tie.MeasureT-loop → Type 0) → Type 0
+At place = place Inv-loop μ-loop
+
+-- what the proofs look back to
+abbrev at-start : At tie.Then1 → At tie.Start
+at-start c = c .before .before .before .before .before
+
+abbrev at-loop-from-then2 : At tie.Then2 → At tie.At-loop
+at-loop-from-then2 c = c .before .before .before .before .before .before .before
+
+abbrev at-loop-from-else2 : At tie.Else2 → At tie.At-loop
+at-loop-from-else2 c = c .before .before .before .before .before .before .before
+
 loop-holds : tie.Need-loop-holds Inv-loop μ-loop
 loop-holds c = (omega arith, refl)
 
 returns : tie.Need-returns Inv-loop μ-loop
-returns c = let s = c .before .before .before .before .before .args in let i = c .before .before .loop .i in sym (starts-short (s .word .now) (s .line .now) i (omega arith) (omega arith)) ∙ c .before .before .loop .inv .1
+returns c = let s = at-start c .args in let i = c .before .before .loop .i in sym (starts-short (s .word .now) (s .line .now) i (omega arith) (omega arith)) ∙ c .before .before .loop .inv .1
 
 shared-slice-read-lower : tie.Need-shared-slice-read-lower Inv-loop μ-loop
 shared-slice-read-lower c = omega arith
@@ -38,11 +51,11 @@ lower-requires-2 : tie.Need-lower-requires-2 Inv-loop μ-loop
 lower-requires-2 c κs = tt
 
 returns-2 : tie.Need-returns-2 Inv-loop μ-loop
-returns-2 c = let s = c .before .before .before .before .before .before .before .before .before .before .args in
-    let i = c .before .before .before .before .before .before .before .loop .i in
+returns-2 c = let s = at-loop-from-then2 c .before .before .before .args in
+    let i = at-loop-from-then2 c .loop .i in
     let off : startsWord (drop i (s .word .now)) (drop i (s .line .now)) ≡ false =
     starts-off (s .word .now) (s .line .now) i (omega arith) (omega arith) (λ e. c .if2 .taken (c .before .before .before .lower .ensures ∙ e ∙ sym (c .before .lower2 .ensures))) in
-    sym off ∙ c .before .before .before .before .before .before .before .loop .inv .1
+    sym off ∙ at-loop-from-then2 c .loop .inv .1
 
 add-i : tie.Need-add-i Inv-loop μ-loop
 add-i c = omega arith
@@ -51,11 +64,11 @@ loop-less : tie.Need-loop-less Inv-loop μ-loop
 loop-less c = omega arith
 
 loop-again : tie.Need-loop-again Inv-loop μ-loop
-loop-again c = let s = c .before .before .before .before .before .before .before .before .before .before .args in
-    let i = c .before .before .before .before .before .before .before .loop .i in
+loop-again c = let s = at-loop-from-else2 c .before .before .before .args in
+    let i = at-loop-from-else2 c .loop .i in
     let on : startsWord (drop i (s .word .now)) (drop i (s .line .now)) ≡ startsWord (drop (i + 1) (s .word .now)) (drop (i + 1) (s .line .now)) =
     starts-on (s .word .now) (s .line .now) i (omega arith) (omega arith) (sym (c .before .before .before .lower .ensures) ∙ c .if2 .left ∙ c .before .lower2 .ensures) in
-    (omega arith, sym on ∙ c .before .before .before .before .before .before .before .loop .inv .1)
+    (omega arith, sym on ∙ at-loop-from-else2 c .loop .inv .1)
 
 returns-3 : tie.Need-returns-3 Inv-loop μ-loop
 returns-3 c = let s = c .before .before .before .before .args in sym (starts-ended (s .word .now) (s .line .now) (c .before .loop .i) (omega arith)) ∙ c .before .loop .inv .1

@@ -6,7 +6,7 @@ use native.Mathlib.Omega.{arith}
 use lib.ListN.{length}
 use borrow.Author.Tests.{not-true, not-false}
 use Rattle.octets.specs.Bytes.{bare}
-use Rattle.parameters.proofs.Runs.{Ran, ran-start, ran-all, ran-more, ran-end}
+use Rattle.octets.proofs.Runs.{Ran, ran-start, ran-all, ran-more, ran-end}
 use Rattle.parameters.proofs.bare_run.Statement.{statement}
 use Rattle.parameters.proofs.bare_run.Tie as tie
 

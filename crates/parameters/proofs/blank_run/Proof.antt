@@ -6,7 +6,7 @@ use native.Mathlib.Omega.{arith}
 use lib.ListN.{length}
 use borrow.Author.Tests.{not-true, not-false}
 use Rattle.octets.specs.Bytes.{blank}
-use Rattle.parameters.proofs.Runs.{Ran, ran-start, ran-all, ran-more, ran-end}
+use Rattle.octets.proofs.Runs.{Ran, ran-start, ran-all, ran-more, ran-end}
 use Rattle.parameters.proofs.blank_run.Statement.{statement}
 use Rattle.parameters.proofs.blank_run.Tie as tie
 

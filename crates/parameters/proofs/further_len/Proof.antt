@@ -15,6 +15,16 @@ Inv-loop a at₀ at = Joined a at
 abbrev μ-loop : tie.MeasureT-loop
 μ-loop a at₀ at = length a - at
 
+abbrev At : (tie.InvT-loop → tie.MeasureT-loop → Type 0) → Type 0
+At place = place Inv-loop μ-loop
+
+-- what the proofs look back to
+abbrev turn-of-bad : At tie.Then2 → At tie.In-loop
+turn-of-bad c = c .before .before .before .before .before
+
+abbrev turn : At tie.Else2 → At tie.In-loop
+turn c = c .before .before .before .before .before
+
 loop-holds : tie.Need-loop-holds Inv-loop μ-loop
 loop-holds c = joined-start _
 
@@ -43,13 +53,13 @@ quoted-len-requires c κs = omega arith
 
 returns-2 : tie.Need-returns-2 Inv-loop μ-loop
 returns-2 c =
-    let l = c .before .before .before .before .before in
+    let l = turn-of-bad c in
     joined-unfit (l .before .loop .inv) (l .loop-test .taken) (sym (rw lent at (c .before .quoted-len .ensures)) ∙ c .if2 .taken)
 
 add-at : tie.Need-add-at Inv-loop μ-loop
 add-at c =
-    let xs = c .before .before .before .before .before .before .before .before .args .a .now in
-    let next = c .before .before .before .before .before .before .loop .at + 1 in
+    let xs = turn c .before .before .before .args .a .now in
+    let next = turn c .before .loop .at + 1 in
     omega (arith, rw lent at (c .before .quoted-len .ensures), quoted-le (drop next xs), length-drop next xs)
 
 loop-less : tie.Need-loop-less Inv-loop μ-loop
@@ -57,7 +67,7 @@ loop-less c = omega arith
 
 loop-again : tie.Need-loop-again Inv-loop μ-loop
 loop-again c =
-    let l = c .before .before .before .before .before in
+    let l = turn c in
     joined-more (l .before .loop .inv) (l .loop-test .taken) _ (c .before .before .before .if1 .left) (rw lent at (c .before .quoted-len .ensures)) (c .if2 .left)
 
 returns-3 : tie.Need-returns-3 Inv-loop μ-loop

@@ -16,6 +16,8 @@ use borrow.Author.Needs.{needs}
 use Rattle.parameters.proofs.parameter.Statement.{statement}
 use Rattle.parameters.proofs.parameter.Tie as tie
 
+-- ---- what the proofs look back to: the bytes behind the ';', where the key starts, and where it ends
+
 abbrev rest : tie.Else1 → List ℕ
 rest c = c .before .before .before .args .rest .now
 
@@ -24,6 +26,11 @@ start c = 1 + c .blank-run .result
 
 abbrev end : tie.After-key-run → ℕ
 end c = start (c .before .before) + c .key-run .result
+
+abbrev opened : tie.After-key-run → tie.Else1
+opened c = c .before .before .before .before
+
+-- ---- what is known at each place
 
 opens : (c : tie.Else1) → getD (rest c) 0 0 ≡ semicolon
 opens c = sym (c .before .byte-at .ensures) ∙ c .if1 .left
@@ -37,31 +44,31 @@ starts c = ap (_+_ 1) (rw lent at (c .blank-run .ensures))
 start-le : (c : tie.After-blank-run) → start c ≤ length (rest (c .before .before))
 start-le c = key-starts (rest (c .before .before)) (opens (c .before .before)) (start c) (starts c)
 
-runs : (c : tie.After-key-run) → c .key-run .result ≡ run keyByte (drop (start (c .before .before)) (rest (c .before .before .before .before)))
+runs : (c : tie.After-key-run) → c .key-run .result ≡ run keyByte (drop (start (c .before .before)) (rest (opened c)))
 runs c = rw lent at (c .key-run .ensures)
 
-end-le : (c : tie.After-key-run) → end c ≤ length (rest (c .before .before .before .before))
+end-le : (c : tie.After-key-run) → end c ≤ length (rest (opened c))
 end-le c =
     let b = c .before .before in
-    key-ends (rest (b .before .before)) (opens (b .before .before)) (start b) (starts b) (c .key-run .result) (runs c)
+    key-ends (rest (opened c)) (opens (opened c)) (start b) (starts b) (c .key-run .result) (runs c)
 
-equal : (c : tie.Else2) → getD (rest (c .before .before .before .before .before .before)) (end (c .before .before)) 0 ≡ equals
+equal : (c : tie.Else2) → getD (rest (opened (c .before .before))) (end (c .before .before)) 0 ≡ equals
 equal c = sym (c .before .byte-at2 .ensures) ∙ c .if2 .left
 
-from-le : (c : tie.Else2) → end (c .before .before) + 1 ≤ length (rest (c .before .before .before .before .before .before))
-from-le c = omega (arith, inside-of (rest (c .before .before .before .before .before .before)) (end (c .before .before)) (equal c))
+from-le : (c : tie.Else2) → end (c .before .before) + 1 ≤ length (rest (opened (c .before .before)))
+from-le c = omega (arith, inside-of (rest (opened (c .before .before))) (end (c .before .before)) (equal c))
 
 forms : (c : tie.After-form-of) →
     let k = c .before .before .before .before in
-    c .form-of .result ≡ formOf (drop (end k + 1) (rest (k .before .before .before .before)))
+    c .form-of .result ≡ formOf (drop (end k + 1) (rest (opened k)))
 forms c = rw lent at (c .form-of .ensures)
 
 used-le : (c : tie.After-form-of) →
     let k = c .before .before .before .before in
-    end k + 1 + formUsed (c .form-of .result) ≤ length (rest (k .before .before .before .before))
+    end k + 1 + formUsed (c .form-of .result) ≤ length (rest (opened k))
 used-le c =
     let k = c .before .before .before .before in
-    let xs = rest (k .before .before .before .before) in
+    let xs = rest (opened k) in
     rw (forms c) (omega (arith, from-le (c .before .before), form-le (drop (end k + 1) xs), length-drop (end k + 1) xs))
 
 byte-at-requires : tie.Need-byte-at-requires
@@ -106,7 +113,7 @@ byte-at-requires-2 c κs = search needs
 returns-2 : tie.Need-returns-2
 returns-2 c =
     let k = c .before .before in
-    front-bare _ (opens (k .before .before .before .before)) _ (starts (k .before .before)) _ (runs k) (λ e. c .if2 .taken (c .before .byte-at2 .ensures ∙ e))
+    front-bare _ (opens (opened k)) _ (starts (k .before .before)) _ (runs k) (λ e. c .if2 .taken (c .before .byte-at2 .ensures ∙ e))
 
 add-from : tie.Need-add-from
 add-from c = omega (arith, from-le c)
@@ -137,7 +144,7 @@ returns-3 c =
     let e = c .before .before .before .before in
     let k = e .before .before in
     rw (c .form-used .ensures, c .before .value-at .ensures)
-    (front-form _ (opens (k .before .before .before .before)) _ (starts (k .before .before)) _ (runs k) (equal e) _ (forms (c .before .before)))
+    (front-form _ (opens (opened k)) _ (starts (k .before .before)) _ (runs k) (equal e) _ (forms (c .before .before)))
 
 pub parameter-spec : {M : Type 1} → statement M
 parameter-spec =

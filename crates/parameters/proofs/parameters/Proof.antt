@@ -19,15 +19,25 @@ Inv-loop rest count₀ at₀ count at = Passing rest count at
 abbrev μ-loop : tie.MeasureT-loop
 μ-loop rest count₀ at₀ count at = length rest - at
 
-found : (c : tie.After-struct-known Inv-loop μ-loop) →
-    let l = c .before .before .before .before .before .before .before .before .before in
+abbrev At : (tie.InvT-loop → tie.MeasureT-loop → Type 0) → Type 0
+At place = place Inv-loop μ-loop
+
+-- what the proofs look back to
+abbrev turn-of-none : At tie.After-enum-told → At tie.At-loop
+turn-of-none c = c .before .before .before .before .before .before .before
+
+abbrev turn : At tie.After-struct-known → At tie.At-loop
+turn c = c .before .before .before .before .before .before .before .before .before
+
+found : (c : At tie.After-struct-known) →
+    let l = turn c in
     frontOf (drop (l .loop .at) (l .before .before .args .rest .now)) ≡ Found (c .before .before .p .given .0 .0)
 found c = sym (rw lent at (c .before .before .before .before .parameter .ensures)) ∙ c .before .before .p .given .1
 
-next : (c : tie.After-struct-known Inv-loop μ-loop) →
-    let l = c .before .before .before .before .before .before .before .before .before in
+next : (c : At tie.After-struct-known) →
+    let l = turn c in
     Passing (l .before .before .args .rest .now) (l .loop .count + 1) (l .loop .at + c .before .before .p .given .0 .0 .used)
-next c = passing-more (c .before .before .before .before .before .before .before .before .before .loop .inv) _ (found c)
+next c = passing-more (turn c .loop .inv) _ (found c)
 
 loop-holds : tie.Need-loop-holds Inv-loop μ-loop
 loop-holds c = passing-start _
@@ -56,7 +66,7 @@ enum-told : tie.Need-enum-told Inv-loop μ-loop
 enum-told c = search needs
 
 returns-2 : tie.Need-returns-2 Inv-loop μ-loop
-returns-2 c = passing-none (c .before .before .before .before .before .before .before .loop .inv) (sym (rw lent at (c .before .before .parameter .ensures)) ∙ c .enum-told .given .1)
+returns-2 c = passing-none (turn-of-none c .loop .inv) (sym (rw lent at (c .before .before .parameter .ensures)) ∙ c .enum-told .given .1)
 
 enum-known-p : tie.Need-enum-known-p Inv-loop μ-loop
 enum-known-p c = search needs
@@ -69,7 +79,7 @@ add-count c = omega (arith, next c .inside, next c .few)
 
 loop-less : tie.Need-loop-less Inv-loop μ-loop
 loop-less c =
-    let l = c .before .before .before .before .before .before .before .before .before in
+    let l = turn c in
     omega (arith, found-inside (drop (l .loop .at) (l .before .before .args .rest .now)) (found c) .some)
 
 loop-again : tie.Need-loop-again Inv-loop μ-loop

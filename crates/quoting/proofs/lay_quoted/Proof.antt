@@ -5,11 +5,27 @@ use mathlib.Core.List.{[], _∷_, _++_}
 use borrow.Author.Tests.{not-true, not-false}
 use native.Mathlib.Omega.{arith}
 use Rattle.octets.specs.Bytes.{quote}
-use Rattle.octets.proofs.Writing.{start, more, end, from-as, at-front}
+use Rattle.octets.proofs.Writing.{start, more, end, from-as}
 use Rattle.quoting.specs.Quoting.{quoted}
 use Rattle.quoting.proofs.Laws.{stays, in-quotes}
 use Rattle.quoting.proofs.lay_quoted.Statement.{statement}
 use Rattle.quoting.proofs.lay_quoted.Tie as tie
+
+-- what the proofs look back to
+abbrev after-wraps : tie.After-slice-known2 → tie.After-wraps
+after-wraps c = c .before .before .before .before .before
+
+abbrev after-lay3 : tie.After-slice-known5 → tie.After-lay3
+after-lay3 c = c .before .before .before .before .before .before .before
+
+abbrev after-lay2 : tie.After-slice-known5 → tie.After-lay2
+after-lay2 c = after-lay3 c .before .before .before .before
+
+abbrev in-else1 : tie.After-slice-known5 → tie.Else1
+in-else1 c = after-lay2 c .before .before .before
+
+abbrev at-start : tie.After-slice-known5 → tie.Start
+at-start c = in-else1 c .before .before .before .before
 
 wraps-requires : tie.Need-wraps-requires
 wraps-requires c κs = search needs
@@ -22,10 +38,10 @@ same-length c = search needs
 
 returns : tie.Need-returns
 returns c =
-    let s = c .before .before .before .before .before .before .before .before in
+    let s = after-wraps c .before .before .before in
     let value = s .args .value .now in
-    let e = stays value (sym (c .before .before .before .before .before .wraps .ensures) ∙ not-true _ (c .before .before .before .before .if1 .taken)) in
-    at-front (quoted value) (s .args .out .now) (from-as 0 (s .args .out .now) e (c .before .before .lay .ensures))
+    let e = stays value (sym (after-wraps c .wraps .ensures) ∙ not-true _ (c .before .before .before .before .if1 .taken)) in
+    from-as e (c .before .before .lay .ensures)
 
 slice-aggregate-lay : tie.Need-slice-aggregate-lay
 slice-aggregate-lay c = search needs
@@ -47,12 +63,12 @@ same-length-2 c = search needs
 
 returns-2 : tie.Need-returns-2
 returns-2 c =
-    let s = c .before .before .before .before .before .before .before .before .before .before .before .before .before .before .before .before .before .before in
+    let s = at-start c in
     let value = s .args .value .now in
-    let e = in-quotes value (sym (c .before .before .before .before .before .before .before .before .before .before .before .before .before .before .before .wraps .ensures) ∙ not-false _ (c .before .before .before .before .before .before .before .before .before .before .before .before .before .before .if1 .left)) in
-    let a = more (start 0 (s .args .out .now) (quoted value)) (omega arith) (quote ∷ []) (value ++ (quote ∷ [])) e (c .before .before .before .before .before .before .before .before .before .before .before .lay2 .ensures) in
-    let b = more a (omega arith) value (quote ∷ []) refl (c .before .before .before .before .before .before .before .lay3 .ensures) in
-    at-front (quoted value) (s .args .out .now) (end b (c .before .before .lay4 .ensures))
+    let e = in-quotes value (sym (in-else1 c .before .wraps .ensures) ∙ not-false _ (in-else1 c .if1 .left)) in
+    let a = more (start 0 (s .args .out .now) (quoted value)) (omega arith) (quote ∷ []) (value ++ (quote ∷ [])) e (after-lay2 c .lay2 .ensures) in
+    let b = more a (omega arith) value (quote ∷ []) refl (after-lay3 c .lay3 .ensures) in
+    end b (c .before .before .lay4 .ensures)
 
 pub lay-quoted-spec : {M : Type 1} → statement M
 lay-quoted-spec =

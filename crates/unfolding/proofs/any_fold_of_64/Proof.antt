@@ -36,6 +36,13 @@ Inv-loop feed at hit₀ j₀ hit j = (j ≤ 64) × (hit ≡ boolByte (ltb (toFol
 abbrev μ-loop : tie.MeasureT-loop
 μ-loop feed at hit₀ j₀ hit j = 64 - j
 
+abbrev At : (tie.InvT-loop → tie.MeasureT-loop → Type 0) → Type 0
+At place = place Inv-loop μ-loop
+
+-- what the proofs look back to
+abbrev at-start : At tie.After-loop → At tie.Start
+at-start c = c .before .before .before .before .before
+
 any-of-64-requires : tie.Need-any-of-64-requires Inv-loop μ-loop
 any-of-64-requires c κs = omega arith
 
@@ -80,7 +87,7 @@ loop-again c =
     (omega arith, ap (λ (h : ℕ). bitOr h (boolByte (c .is-fold .result))) (l .loop .inv .1) ∙ onward n (l .loop .j) (c .is-fold .result) here)
 
 returns-2 : tie.Need-returns-2 Inv-loop μ-loop
-returns-2 c = let l = c .before .loop in let s = c .before .before .before .before .before .args in
+returns-2 c = let l = c .before .loop in let s = at-start c .args in
     let h : l .j ≡ 64 = omega arith in
     ap (λ (n : ℕ). not (eqb n 0)) (rw h at (l .inv .1)) ∙ told (ltb (toFold (drop (s .at) (s .feed .now))) 64)
 

@@ -17,11 +17,24 @@ Inv-loop feed from last i₀ i = (i ≤ length feed) × (i + toFold (drop i feed
 abbrev μ-loop : tie.MeasureT-loop
 μ-loop feed from last i₀ i = length feed - i
 
+abbrev At : (tie.InvT-loop → tie.MeasureT-loop → Type 0) → Type 0
+At place = place Inv-loop μ-loop
+
+-- what the proofs look back to
+abbrev at-start : At tie.After-find-near → At tie.Start
+at-start c = c .before .before .before .before .before
+
+abbrev break-of-fold : At tie.Then2 → At tie.After-find-near
+break-of-fold c = c .before .before .before .before .before
+
+abbrev break-of-none : At tie.Else2 → At tie.After-find-near
+break-of-none c = c .before .before .before .before .before
+
 -- the first fold from the LF on that was found is the first one
-at-break : (c : tie.After-find-near Inv-loop μ-loop) → let s = c .before .before .before .before .before .args in
+at-break : (c : At tie.After-find-near) → let s = at-start c .args in
     c .find-near .result + toFold (drop (c .find-near .result) (s .feed .now)) ≡ s .from + toFold (drop (s .from) (s .feed .now))
 at-break c =
-    let s = c .before .before .before .before .before .args in
+    let s = at-start c .args in
     sym (to-break (s .feed .now) (c .before .before .loop .i) (c .find-near .result) (c .find-near .ensures)) ∙ c .before .before .loop .inv .1
 
 sub-last : tie.Need-sub-last Inv-loop μ-loop
@@ -40,7 +53,7 @@ returns : tie.Need-returns Inv-loop μ-loop
 returns c =
     let end = c .before .find-near .result in
     let i = c .before .before .before .loop .i in
-    let feed = c .before .before .before .before .before .before .args .feed .now in
+    let feed = at-start (c .before) .args .feed .now in
     let within : end ≤ length feed = omega (arith, c .before .find-near .ensures, runs.within (other lf) (drop i feed), length-drop i feed) in
     omega (arith, at-break (c .before), length-drop end feed, at-last (drop end feed) (omega (arith, length-drop end feed)))
 
@@ -58,20 +71,20 @@ is-fold-requires c κs = search needs
 
 returns-2 : tie.Need-returns-2 Inv-loop μ-loop
 returns-2 c =
-    let l = c .before .before .before .before .before in
-    let feed = l .before .before .before .before .before .args .feed .now in
+    let l = break-of-fold c in
+    let feed = at-start l .args .feed .now in
     omega (arith, at-break l, stop feed (l .find-near .result) (omega arith) (sym (c .before .is-fold .ensures) ∙ c .if2 .taken))
 
 add-i : tie.Need-add-i Inv-loop μ-loop
 add-i c = omega arith
 
 loop-less : tie.Need-loop-less Inv-loop μ-loop
-loop-less c = let l = c .before .before .before .before .before in omega (arith, l .find-near .ensures)
+loop-less c = let l = break-of-none c in omega (arith, l .find-near .ensures)
 
 loop-again : tie.Need-loop-again Inv-loop μ-loop
 loop-again c =
-    let l = c .before .before .before .before .before in
-    let feed = l .before .before .before .before .before .args .feed .now in
+    let l = break-of-none c in
+    let feed = at-start l .args .feed .now in
     (omega arith, omega (arith, at-break l, on feed (l .find-near .result) (omega arith) (sym (c .before .is-fold .ensures) ∙ c .if2 .left)))
 
 returns-3 : tie.Need-returns-3 Inv-loop μ-loop

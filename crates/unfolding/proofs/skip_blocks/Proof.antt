@@ -1,6 +1,7 @@
 -- `skip_blocks`: what was passed holds no fold.
+use mathlib.Core.List.{List}
 use mathlib.Core.Path.{_≡_, refl, sym, _∙_}
-use Prim.Native.Nat.{_≤_, _+_, _-_}
+use Prim.Native.Nat.{ℕ, _≤_, _+_, _-_}
 use native.Mathlib.Omega.{arith}
 use lib.ListN.{length, drop}
 use borrow.Author.Tests.{ltb-false}
@@ -14,6 +15,13 @@ Inv-loop feed from i₀ i = (i ≤ length feed) × (i + toFold (drop i feed) ≡
 
 abbrev μ-loop : tie.MeasureT-loop
 μ-loop feed from i₀ i = length feed - i
+
+abbrev At : (tie.InvT-loop → tie.MeasureT-loop → Type 0) → Type 0
+At place = place Inv-loop μ-loop
+
+-- what the proofs look back to
+abbrev feed-of : At tie.Else2 → List ℕ
+feed-of c = c .before .before .before .before .before .before .args .feed .now
 
 loop-holds : tie.Need-loop-holds Inv-loop μ-loop
 loop-holds c = (omega arith, refl)
@@ -37,7 +45,7 @@ loop-less : tie.Need-loop-less Inv-loop μ-loop
 loop-less c = omega arith
 
 loop-again : tie.Need-loop-again Inv-loop μ-loop
-loop-again c = let feed = c .before .before .before .before .before .before .args .feed .now in let i = c .before .before .before .before .loop .i in
+loop-again c = let feed = feed-of c in let i = c .before .before .before .before .loop .i in
     let far : 64 ≤ toFold (drop i feed) = ltb-false (toFold (drop i feed)) 64 (sym (c .before .any-fold-of-64 .ensures) ∙ c .if2 .left) in
     (omega arith, omega (arith, passed feed i 64 far))
 

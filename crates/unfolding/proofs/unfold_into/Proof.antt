@@ -1,11 +1,12 @@
 -- `unfold_into` lays piece after piece: what is laid, with what stays of the rest of the feed, is the unfolded feed. Assumes nothing.
+use mathlib.Core.List.{List}
 use mathlib.Core.Path.{ap, _∙_}
-use Prim.Native.Nat.{_-_, _≤_}
+use Prim.Native.Nat.{ℕ, _-_, _≤_}
 use native.Mathlib.Omega.{arith}
 use lib.ListN.{length, take, drop, length-drop, drop-of-length-le}
 use lib.Seq.{length-take-le}
 use borrow.Author.Needs.{needs}
-use Rattle.octets.proofs.Writing.{Writing, start, more, end, at-front, stays}
+use Rattle.octets.proofs.Writing.{Writing, start, more, end, stays}
 use Rattle.unfolding.specs.Unfold.{unfolded}
 use Rattle.unfolding.proofs.Laws.{nothing, length-unfolded}
 use Rattle.unfolding.proofs.unfold_into.Statement.{statement}
@@ -17,6 +18,16 @@ Inv-loop feed text₀ n₀ i₀ text n i =
 
 abbrev μ-loop : tie.MeasureT-loop
 μ-loop feed text₀ n₀ i₀ text n i = length feed - i
+
+abbrev At : (tie.InvT-loop → tie.MeasureT-loop → Type 0) → Type 0
+At place = place Inv-loop μ-loop
+
+-- what the proofs look back to
+abbrev feed-of : At tie.After-piece-at → List ℕ
+feed-of c = c .before .before .before .before .before .args .feed .now
+
+abbrev after-piece-at : At tie.After-slice-known2 → At tie.After-piece-at
+after-piece-at c = c .before .before .before .before .before
 
 loop-holds : tie.Need-loop-holds Inv-loop μ-loop
 loop-holds c =
@@ -43,13 +54,13 @@ loop-less c = omega arith
 
 loop-again : tie.Need-loop-again Inv-loop μ-loop
 loop-again c =
-    let p = c .before .before .before .before .before in
+    let p = after-piece-at c in
     let l = p .before .before .loop in
-    let feed = p .before .before .before .before .before .args .feed .now in
+    let feed = feed-of p in
     let k = p .piece-at .result .end - l .i in
     let e = length-take-le k (drop (l .i) feed) (omega (arith, length-drop (l .i) feed)) in
     let w = c .before .before .lay .ensures in
-    (omega (arith, e, w .0), omega arith, more (l .inv .2) (omega arith) (take k (drop (l .i) feed)) _ (p .piece-at .ensures .is) w)
+    (omega (arith, e, w .count), omega arith, more (l .inv .2) (omega arith) (take k (drop (l .i) feed)) _ (p .piece-at .ensures .is) w)
 
 same-length : tie.Need-same-length Inv-loop μ-loop
 same-length c = c .before .loop .inv .2 .same
@@ -59,8 +70,8 @@ returns c =
     let a = c .before .before .before .before .args in
     let l = c .before .loop in
     let e = ap unfolded (drop-of-length-le (a .feed .now) {i = l .i} (c .loop-test .left)) ∙ nothing 0 in
-    let f = at-front (unfolded (a .feed .now)) (a .text .now) (end (rw e at (l .inv .2)) (stays (l .n) (l .text) (omega arith))) in
-    record { count = omega (arith, f .0, length-unfolded (a .feed .now)); text = f .1 }
+    let f = end (rw e at (l .inv .2)) (stays (l .n) (l .text) (omega arith)) in
+    record { count = omega (arith, f .count, length-unfolded (a .feed .now)); text = f .is }
 
 pub unfold-into-spec : {M : Type 1} → statement M
 unfold-into-spec =
