@@ -3,3 +3,4 @@ pub mod Stacks
 pub mod Parameters
 pub mod Checks
 pub mod Passing
+pub mod Lines

@@ -17,9 +17,9 @@ use Rattle.tables.specs.declared.ComponentRow.{ComponentRow}
 use Rattle.tables.specs.Rows.{putRow, componentSize, propertySize, parameterSize, componentWords, propertyWords, parameterWords}
 use Rattle.lines.specs.Split.{Placed, contentLen, lineLen, extentOf, linesFrom}
 use Rattle.lines.specs.declared.Extent.{Extent}
-use Rattle.lines.specs.Rule.{lineOf}
+use Rattle.lines.specs.Rule.{lineOf, afterBegin}
 use Rattle.lines.specs.declared.Line.{Line}
-use Rattle.lines.specs.declared.Line.the-variants.{Empty, Begin, BadBegin, End, Content, Bad}
+use Rattle.lines.specs.declared.Line.the-variants.{Begin, End, Content, Bad}
 use Rattle.lines.specs.declared.Property.{Property}
 use Rattle.lines.proofs.Split as split
 use Rattle.lines.specs.Sound.{Sound, SoundProperty}
@@ -31,7 +31,7 @@ use Rattle.nesting.specs.declared.Open.{Open}
 use Rattle.nesting.specs.declared.Outcome.{Outcome}
 use Rattle.nesting.specs.declared.Refusal.{Refusal}
 use Rattle.nesting.specs.Rows.{noEntry, entry, top, componentRow, propertyRow, parameterRow, parameterRows}
-use Rattle.nesting.specs.Steps.{State, nothing, Run, finished, stopped, closes, checkOf, closed, after, onward, run, runOf, endedAt, outcomeOf, countsOf, componentCounted, propertyCounted}
+use Rattle.nesting.specs.Steps.{State, nothing, finished, stopped, closes, checkOf, closed, after, onward, run, runOf, endedAt, outcomeOf, countsOf, componentCounted, propertyCounted}
 use Rattle.nesting.specs.Held.{zeroEntry, stack, opened, topOf, Innermost, putRows, Tabled}
 use Rattle.nesting.proofs.Stacks.{length-stack, topmost}
 use Rattle.nesting.proofs.Tables.{put-one, put-more, length-rows-put}
@@ -60,6 +60,11 @@ start text c p q o e slots =
       tabled = record { components = refl; properties = refl; parameters = refl };
       leads = refl;
     }
+
+-- the same of an equal place
+pub moved-to : {text c₀ p₀ q₀ : List ℕ} {s : State} {c p q : List ℕ} {o : Open} {n : Counts} {at at′ : ℕ}
+    → at ≡ at′ → Reached text c₀ p₀ q₀ s c p q o n at′ → Reached text c₀ p₀ q₀ s c p q o n at
+moved-to e so = rw e so
 
 -- the content of the line at `at`
 abbrev pub contentAt : List ℕ → ℕ → List ℕ
@@ -180,7 +185,7 @@ module _ {text c₀ p₀ q₀ : List ℕ} {s : State} {c p q : List ℕ} {o : Op
     pub ends-tabled : (t : State) → runOf text ≡ finished t → Tabled t c₀ p₀ q₀ c p q
     ends-tabled t f = let same : s ≡ t = cc in rw same at (so .tabled)
 
-  module _ (h : at < length text) (line : Line) (is : line ≡ lineOf (contentAt text at)) where
+  module _ {line : Line} (h : at < length text) (is : line ≡ lineOf (contentAt text at)) where
     abbrev next : ℕ
     next = at + lineLen (drop at text)
 
@@ -197,9 +202,9 @@ module _ {text c₀ p₀ q₀ : List ℕ} {s : State} {c p q : List ℕ} {o : Op
     sounds = rw is (sound (contentAt text at))
 
     -- a line that adds nothing
-    pub passes : after at (contentAt text at) line s ≡ s → checkOf text (contentAt text at) line (s .opens) ≡ Check.Fine
+    pub passes : (kind : Line) → line ≡ kind → after at (contentAt text at) kind s ≡ s → checkOf text (contentAt text at) line (s .opens) ≡ Check.Fine
         → Reached text c₀ p₀ q₀ s c p q o n next
-    passes same f =
+    passes kind e same f =
         record {
           opens = so .opens;
           depth = so .depth;
@@ -208,7 +213,7 @@ module _ {text c₀ p₀ q₀ : List ℕ} {s : State} {c p q : List ℕ} {o : Op
           few = omega (arith, so .few);
           inside = next-inside text at (so .inside);
           tabled = so .tabled;
-          leads = rw same at (goes-on f);
+          leads = rw (ap (λ (l : Line). after at (contentAt text at) l s) e ∙ same) at (goes-on f);
         }
 
     -- a property line
@@ -245,14 +250,15 @@ module _ {text c₀ p₀ q₀ : List ℕ} {s : State} {c p q : List ℕ} {o : Op
             tabled = record {
               components = so .tabled .components;
               properties = ep ∙ rw own (put-one propertySize propertyWords (s .properties) (propertyRow (top (s .opens)) at g) (n .properties) p p₀ np (so .tabled .properties));
-              parameters = eq ∙ rw np (put-more parameterSize parameterWords (s .parameters) (parameterRows (length (s .properties)) at (contentAt text at) g) (n .parameters) q q₀ nq (so .tabled .parameters));
+              parameters = eq ∙ rw np (put-more parameterSize parameterWords (s .parameters)
+                  (parameterRows (length (s .properties)) at (contentAt text at) g) (n .parameters) q q₀ nq (so .tabled .parameters));
             };
             leads = rw kind at (goes-on f);
           }
 
     -- a BEGIN line
     module _ (name : Span) (kind : line ≡ Begin name) where
-      begin-sound : (name .start ≡ 6) × (6 + name .len ≡ length (contentAt text at))
+      begin-sound : (name .start ≡ afterBegin) × (afterBegin + name .len ≡ length (contentAt text at))
       begin-sound = rw kind at sounds
 
       pub begin-inside : at + (name .start + name .len) ≤ length text
@@ -285,7 +291,8 @@ module _ {text c₀ p₀ q₀ : List ℕ} {s : State} {c p q : List ℕ} {o : Op
             tabled = record {
               components =
                   ec ∙ ap (λ (r : ComponentRow). putRow componentSize (n .components) (componentWords r) c) row
-                  ∙ put-one componentSize componentWords (s .components) (componentRow (top (s .opens)) (length (s .opens) + 1) (entry (length (s .components)) at name)) (n .components) c c₀ nc (so .tabled .components);
+                  ∙ put-one componentSize componentWords (s .components)
+                  (componentRow (top (s .opens)) (length (s .opens) + 1) (entry (length (s .components)) at name)) (n .components) c c₀ nc (so .tabled .components);
               properties = so .tabled .properties;
               parameters = so .tabled .parameters;
             };

@@ -34,7 +34,7 @@ pub struct Entry {
 
 // The open components, the innermost last.
 pub struct Open {
-    pub entries: [Entry; 64],
+    pub entries: [Entry; octets::DEEPEST],
     pub depth: usize,
 }
 
@@ -78,7 +78,7 @@ impl Open {
         ensures { λ r. ⌜ (opened r ≡ []) × (length (r .entries) ≡ deepest) ⌝ }
     {
         Open {
-            entries: [NO_ENTRY; 64],
+            entries: [NO_ENTRY; octets::DEEPEST],
             depth: 0,
         }
     }
@@ -302,7 +302,8 @@ pub fn pass(
 ) -> Outcome
     requires { ⌜ length (now text) ≤ longest ⌝ }
     ensures { λ r. ⌜ r ≡ outcomeOf (now (text .entry)) ⌝ }
-    ensures { λ _. ⌜ ((s : State) → runOf (now (text .entry)) ≡ finished s → Tabled s (now (components .entry)) (now (properties .entry)) (now (parameters .entry)) (now (components .exit)) (now (properties .exit)) (now (parameters .exit))) ⌝ }
+    ensures { λ _. ⌜ ((s : State) → runOf (now (text .entry)) ≡ finished s →
+        Tabled s (now (components .entry)) (now (properties .entry)) (now (parameters .entry)) (now (components .exit)) (now (properties .exit)) (now (parameters .exit))) ⌝ }
 {
     let mut open = Open::new();
     let mut counts = Counts::new();

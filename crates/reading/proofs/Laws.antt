@@ -1,7 +1,7 @@
 -- Laws of the six numbers and of what a reading leaves. Assumes nothing.
 use mathlib.Core.Path.{_≡_, refl, sym, ap, _∙_}
 use mathlib.Core.Bool.{Bool, true, false, _&&_}
-use mathlib.Core.List.{List, [], _∷_, _++_}
+use mathlib.Core.List.{List, _++_}
 use Prim.Native.Nat.{ℕ, _+_, _-_, _*_, _/_, _≤_, _<_}
 use native.Mathlib.Nat.{le-div-iff-mul-le, mul-comm}
 use native.Mathlib.Omega.{arith}
@@ -15,17 +15,18 @@ use Rattle.octets.proofs.Laid.{whole, length-laid}
 use Rattle.octets.specs.Answers.{longest, done, noRoom, noTextRoom, tooLong}
 use Rattle.unfolding.specs.Unfold.{unfolded}
 use Rattle.lines.specs.declared.Fault.the-variants.{BadLine}
-use Rattle.tables.specs.Rows.{flat, componentSize, propertySize, parameterSize, componentWords, propertyWords, parameterWords, componentFrom, propertyFrom, parameterFrom}
+use Rattle.tables.specs.Rows.{flat, componentSize, propertySize}
 use Rattle.tables.proofs.Laws.{Shape, component-shape, property-shape, parameter-shape}
 use Rattle.nesting.specs.Steps.{State, Run, finished, stopped, runOf, endedAt, judged, outcomeOf, countsOf}
 use Rattle.nesting.specs.Held.{putRows, Tabled}
 use Rattle.nesting.specs.declared.Counts.{Counts}
 use Rattle.nesting.specs.declared.Refusal.{Refusal}
-use Rattle.nesting.specs.declared.Outcome.{Outcome}
 use Rattle.nesting.specs.declared.Outcome.the-variants.{Read, Refused}
 use Rattle.nesting.proofs.Tables.{all-put}
 use Rattle.reading.specs.declared.Reading.{Reading}
-use Rattle.reading.specs.Answers.{numberOf, told, refusal, roomFor, fits, answered, readText, readingOf, laidWhole, textAfter, rowsOf, tableAfter}
+use Rattle.reading.specs.Answers.{numberOf, told, refusal, roomFor, fits, readText, readingOf, laidWhole, textAfter, Filled}
+use Rattle.tables.specs.Lent.{Lent, lent}
+use Rattle.reading.specs.Lent.{roomIn, readInto, left}
 
 -- every refusal of a line has a number of its own, which is not Done
 pub refusal-number : (r : Refusal) → eqb (numberOf r) done ≡ false
@@ -78,24 +79,13 @@ module _ {A : Type 0} {size : ℕ} {words : A → List ℕ} {from : List ℕ →
   filled rows n old new e t held =
       held ∙ all-put size words shape rows old (room-for size (length rows) (length old) (shape .some) (rw e at (leb-true n (length old / size) t)))
 
--- what the three tables hold after an answer
-pub record Left (text : List ℕ) (r : Reading) (c p q c′ p′ q′ : List ℕ) : Type 0 where
-  pub components : c′ ≡ tableAfter componentWords (rowsOf (runOf text) .components) r c
-  pub properties : p′ ≡ tableAfter propertyWords (rowsOf (runOf text) .properties) r p
-  pub parameters : q′ ≡ tableAfter parameterWords (rowsOf (runOf text) .parameters) r q
-
-pub untouched : (text : List ℕ) (r : Reading) (c p q : List ℕ) → eqb (r .answer) done ≡ false → Left text r c p q c p q
+-- a refusal leaves the three tables as they were
+pub untouched : (text : List ℕ) (r : Reading) (c p q : List ℕ) → eqb (r .answer) done ≡ false → Filled text r c p q c p q
 untouched text r c p q e = record { components = rw e; properties = rw e; parameters = rw e }
 
 -- the same of an equal answer, and of an equal text
-pub left-by : {text text′ : List ℕ} {r r′ : Reading} {c p q c′ p′ q′ : List ℕ} → text ≡ text′ → r ≡ r′ → Left text r c p q c′ p′ q′ → Left text′ r′ c p q c′ p′ q′
-left-by {c = c} {p} {q} {c′} {p′} {q′} e f w = rw (sym e, sym f) w
-
--- told as the contracts tell it
-pub tables : {text : List ℕ} {r : Reading} {c p q c′ p′ q′ : List ℕ} → Left text r c p q c′ p′ q′
-    → (c′ ≡ tableAfter componentWords (rowsOf (runOf text) .components) r c)
-    × ((p′ ≡ tableAfter propertyWords (rowsOf (runOf text) .properties) r p) × (q′ ≡ tableAfter parameterWords (rowsOf (runOf text) .parameters) r q))
-tables w = (w .components, (w .properties, w .parameters))
+pub filled-by : {text text′ : List ℕ} {r r′ : Reading} {c p q c′ p′ q′ : List ℕ} → text ≡ text′ → r ≡ r′ → Filled text r c p q c′ p′ q′ → Filled text′ r′ c p q c′ p′ q′
+filled-by {c = c} {p} {q} {c′} {p′} {q′} e f w = rw (sym e, sym f) w
 
 module _ (text c p q : List ℕ) (counts : Counts) (e : outcomeOf text ≡ Read counts) where
   abbrev room : Counts
@@ -105,7 +95,7 @@ module _ (text c p q : List ℕ) (counts : Counts) (e : outcomeOf text ≡ Read 
   answers t f = rw (e, f)
 
   pub fills : fits counts room ≡ true → (c′ p′ q′ : List ℕ) → ((s : State) → runOf text ≡ finished s → Tabled s c p q c′ p′ q′)
-      → Left text (told done 0 (length text) counts) c p q c′ p′ q′
+      → Filled text (told done 0 (length text) counts) c p q c′ p′ q′
   fills f c′ p′ q′ tabled =
       let w = read-to-end text counts e in
       let s = w .state in
@@ -140,23 +130,29 @@ length-whole bytes old = go (leb (length bytes) (length old))
     go true = length-laid bytes old
     go false = refl
 
-module _ (feed text : List ℕ) (room : Counts) where
-  pub too-long : longest < length feed → (refusal tooLong 0 0 ≡ readingOf feed (length text) room) × (text ≡ textAfter feed text)
+-- ---- all four buffers
+
+module _ (feed : List ℕ) (b : Lent) where
+  pub four : {r : Reading} {t c p q : List ℕ} → r ≡ readInto feed b → t ≡ textAfter feed (b .text)
+      → Filled (unfolded feed) r (b .components) (b .properties) (b .parameters) c p q → lent t c p q ≡ left feed b
+  four e f w = let v = filled-by refl e w in rw (f, v .components, v .properties, v .parameters)
+
+  pub too-long : longest < length feed → (refusal tooLong 0 0 ≡ readInto feed b) × (b .text ≡ textAfter feed (b .text))
   unfolding readingOf textAfter
   too-long h = (rw (lt-leb (length feed) longest h), rw (lt-leb (length feed) longest h))
 
   module _ (short : length feed ≤ longest) where
-    pub text-after : laidWhole (unfolded feed) text ≡ textAfter feed text
+    pub text-after : laidWhole (unfolded feed) (b .text) ≡ textAfter feed (b .text)
     unfolding textAfter
     text-after = rw (le-leb (length feed) longest short)
 
-    pub no-text-room : length text < length (unfolded feed) → refusal noTextRoom 0 (length (unfolded feed)) ≡ readingOf feed (length text) room
+    pub no-text-room : length (b .text) < length (unfolded feed) → refusal noTextRoom 0 (length (unfolded feed)) ≡ readInto feed b
     unfolding readingOf
-    no-text-room h = rw (le-leb (length feed) longest short, lt-leb (length (unfolded feed)) (length text) h)
+    no-text-room h = rw (le-leb (length feed) longest short, lt-leb (length (unfolded feed)) (length (b .text)) h)
 
-    pub reads-text : length (unfolded feed) ≤ length text → readText (unfolded feed) room ≡ readingOf feed (length text) room
+    pub reads-text : length (unfolded feed) ≤ length (b .text) → readText (unfolded feed) (roomIn b) ≡ readInto feed b
     unfolding readingOf
-    reads-text h = rw (le-leb (length feed) longest short, le-leb (length (unfolded feed)) (length text) h)
+    reads-text h = rw (le-leb (length feed) longest short, le-leb (length (unfolded feed)) (length (b .text)) h)
 
 -- the unfolded feed is what is lent to the reading of the text
 pub lent-text : (feed text new : List ℕ) (n : ℕ) → n ≡ length (unfolded feed) → length (unfolded feed) ≤ length text → new ≡ laidWhole (unfolded feed) text

@@ -1,6 +1,7 @@
 -- The six numbers of a reading, and what it leaves in the text and in the tables (document 01, "What each number returns and leaves").
 -- Assumes nothing.
 use Prim.Native.Nat.{ℕ, _/_}
+use mathlib.Core.Path.{_≡_}
 use mathlib.Core.Bool.{Bool, _&&_}
 use mathlib.Core.List.{List}
 use lib.ListN.{length}
@@ -97,15 +98,8 @@ rowsRead feed = rowsOf (runOf (unfolded feed))
 abbrev pub tableAfter : {A : Type 0} → (A → List ℕ) → List A → Reading → List ℕ → List ℕ
 tableAfter words rows reading table = pick (eqb (reading .answer) done) (laid (flat words rows) table) table
 
-module _ (feed text components properties parameters : List ℕ) where
-  abbrev pub whole : Reading
-  whole = readingOf feed (length text) (roomFor (length components) (length properties) (length parameters))
-
-  abbrev pub componentsAfter : List ℕ
-  componentsAfter = tableAfter componentWords (rowsRead feed .components) whole components
-
-  abbrev pub propertiesAfter : List ℕ
-  propertiesAfter = tableAfter propertyWords (rowsRead feed .properties) whole properties
-
-  abbrev pub parametersAfter : List ℕ
-  parametersAfter = tableAfter parameterWords (rowsRead feed .parameters) whole parameters
+-- the three tables, at entry and at exit, behind a text that is read
+pub record Filled (text : List ℕ) (r : Reading) (c p q c′ p′ q′ : List ℕ) : Type 0 where
+  pub components : c′ ≡ tableAfter componentWords (rowsOf (runOf text) .components) r c
+  pub properties : p′ ≡ tableAfter propertyWords (rowsOf (runOf text) .properties) r p
+  pub parameters : q′ ≡ tableAfter parameterWords (rowsOf (runOf text) .parameters) r q

@@ -3,10 +3,10 @@ ghost use mathlib.Core.Path.{_≡_};
 ghost use Prim.Native.Nat.{_≤_};
 ghost use lib.ListN.{length};
 ghost use Rattle.octets.specs.Answers.{longest};
-ghost use Rattle.tables.specs.Rows.{componentWords, propertyWords, parameterWords};
-ghost use Rattle.nesting.specs.Steps.{runOf};
 ghost use Rattle.unfolding.specs.Unfold.{unfolded};
-ghost use Rattle.reading.specs.Answers.{laidWhole, readText, rowsOf, tableAfter, numberOf, faultNumber, refusal, told, fits, roomFor, whole, textAfter, componentsAfter, propertiesAfter, parametersAfter};
+ghost use Rattle.reading.specs.Answers.{laidWhole, readText, Filled, numberOf, faultNumber, refusal, told, fits, roomFor};
+ghost use Rattle.tables.specs.Lent.{lent};
+ghost use Rattle.reading.specs.Lent.{readInto, left};
 use lines::Fault;
 use nesting::Counts;
 use nesting::Outcome;
@@ -98,9 +98,9 @@ fn read_text(
 ) -> Reading
     requires { ⌜ length (now text) ≤ longest ⌝ }
     ensures { λ r. ⌜ r ≡ readText (now (text .entry)) (roomFor (length (now (components .entry))) (length (now (properties .entry))) (length (now (parameters .entry)))) ⌝ }
-    ensures { λ r. ⌜ now (components .exit) ≡ tableAfter componentWords (rowsOf (runOf (now (text .entry))) .components) r (now (components .entry)) ⌝ }
-    ensures { λ r. ⌜ now (properties .exit) ≡ tableAfter propertyWords (rowsOf (runOf (now (text .entry))) .properties) r (now (properties .entry)) ⌝ }
-    ensures { λ r. ⌜ now (parameters .exit) ≡ tableAfter parameterWords (rowsOf (runOf (now (text .entry))) .parameters) r (now (parameters .entry)) ⌝ }
+    ensures { λ r. ⌜ Filled (now (text .entry)) r
+        (now (components .entry)) (now (properties .entry)) (now (parameters .entry))
+        (now (components .exit)) (now (properties .exit)) (now (parameters .exit)) ⌝ }
 {
     let size = text.len();
     let outcome = nesting::count(text);
@@ -123,11 +123,9 @@ pub fn read_components(
     properties: &mut [u32],
     parameters: &mut [u32],
 ) -> Reading
-    ensures { λ r. ⌜ r ≡ whole (now (feed .entry)) (now (text .entry)) (now (components .entry)) (now (properties .entry)) (now (parameters .entry)) ⌝ }
-    ensures { λ _. ⌜ now (text .exit) ≡ textAfter (now (feed .entry)) (now (text .entry)) ⌝ }
-    ensures { λ _. ⌜ now (components .exit) ≡ componentsAfter (now (feed .entry)) (now (text .entry)) (now (components .entry)) (now (properties .entry)) (now (parameters .entry)) ⌝ }
-    ensures { λ _. ⌜ now (properties .exit) ≡ propertiesAfter (now (feed .entry)) (now (text .entry)) (now (components .entry)) (now (properties .entry)) (now (parameters .entry)) ⌝ }
-    ensures { λ _. ⌜ now (parameters .exit) ≡ parametersAfter (now (feed .entry)) (now (text .entry)) (now (components .entry)) (now (properties .entry)) (now (parameters .entry)) ⌝ }
+    ensures { λ r. ⌜ r ≡ readInto (now (feed .entry)) (lent (now (text .entry)) (now (components .entry)) (now (properties .entry)) (now (parameters .entry))) ⌝ }
+    ensures { λ _. ⌜ lent (now (text .exit)) (now (components .exit)) (now (properties .exit)) (now (parameters .exit))
+        ≡ left (now (feed .entry)) (lent (now (text .entry)) (now (components .entry)) (now (properties .entry)) (now (parameters .entry))) ⌝ }
 {
     if octets::LONGEST < feed.len() {
         return refuse(octets::TOO_LONG, 0, 0);

@@ -3,17 +3,18 @@ use mathlib.Core.Path.{_≡_, refl, sym, ap, _∙_}
 use mathlib.Core.Bool.{Bool, true, false}
 use mathlib.Core.List.{List, [], _∷_, _++_, append-assoc, append-nil}
 use Prim.Native.Nat.{ℕ, zero, suc, _+_, _*_, _/_, _≤_, _<_, zero-le, suc-le-suc}
-use native.Mathlib.Nat.{zero-add, add-zero, mul-zero, mul-suc, mul-comm, suc-mul, le-div-iff-mul-le, mul-div-cancel-left, le-refl, le-of-suc-le-suc, not-suc-le-zero}
+use native.Mathlib.Nat.{zero-add, add-zero, add-suc, mul-zero, mul-suc, mul-comm, suc-mul, le-div-iff-mul-le, mul-div-cancel-left, le-refl, le-of-suc-le-suc, not-suc-le-zero}
 use native.Mathlib.Numerals.{add-one}
 use native.Mathlib.Omega.{arith}
-use lib.ListN.{length, take, drop, drop-of-length-le, getD, length-append}
+use lib.ListN.{length, take, drop, drop-of-length-le, getD, set, length-append}
 use lib.Seq.{take-all, sets, sets-eq, length-sets, take-append-seam, drop-append-add, drop-drop, drop-cons, getD-append-add, getD-append-seam}
 use lib.Dec.{ltb}
 use borrow.Author.Tests.{lt-ltb, le-ltb}
 use Rattle.octets.specs.Choice.{pick}
 use Rattle.octets.specs.Laid.{laid}
 use Rattle.octets.proofs.Laid.{whole, length-laid}
-use Rattle.tables.specs.Rows.{componentSize, propertySize, parameterSize, rowAt, tabulate, rowsOf, flat, putRow, componentWords, componentFrom, propertyWords, propertyFrom, parameterWords, parameterFrom}
+use Rattle.tables.specs.Rows.{componentSize, propertySize, parameterSize, rowAt, tabulate, rowsOf, flat, putRow, componentWords, componentFrom}
+use Rattle.tables.specs.Rows.{propertyWords, propertyFrom, parameterWords, parameterFrom}
 
 -- a table has row n where all of its words are in the table
 pub has-row : (size n len : ℕ) → 0 < size → size * n + size ≤ len → n < len / size
@@ -28,6 +29,13 @@ put-inside size n ws table h = rw (lt-ltb n (length table / size) h)
 
 pub put-outside : (size n : ℕ) (ws table : List ℕ) → length table / size ≤ n → putRow size n ws table ≡ table
 put-outside size n ws table h = rw (le-ltb n (length table / size) h)
+
+-- the words of a row put one after the other: what is put, with what is to come
+pub word-put : (at i : ℕ) (ws table : List ℕ) → i < length ws → sets (set table (at + i) (getD ws i 0)) (at + (i + 1)) (drop (i + 1) ws) ≡ sets table (at + i) (drop i ws)
+word-put at i ws table h = rw (drop-cons ws i 0 h, add-one, add-suc)
+
+pub words-end : (at i : ℕ) (ws table : List ℕ) → length ws ≤ i → sets table (at + i) (drop i ws) ≡ table
+words-end at i ws table h = rw (drop-of-length-le ws h)
 
 pub length-put : (size n : ℕ) (ws table : List ℕ) → length (putRow size n ws table) ≡ length table
 length-put size n ws table = go (ltb n (length table / size))
@@ -85,6 +93,11 @@ module _ {A : Type 0} where
     pub rows-end : (i : ℕ) → length table / size ≤ i → drop i (rowsOf size at table) ≡ []
     rows-end i h = let l : length (rowsOf size at table) ≤ i = rw length-rows h in drop-of-length-le (rowsOf size at table) l
 
+pub flat-append : {A : Type 0} (words : A → List ℕ) (rows more : List A) → flat words (rows ++ more) ≡ flat words rows ++ flat words more
+unfolding flat
+flat-append words [] more = refl
+flat-append words (r ∷ rows) more = rw (flat-append words rows more, append-assoc)
+
 -- how rows of one kind stand in words: each is `size` words, and `from` reads at a place the row whose words stand there
 pub record Shape {A : Type 0} (size : ℕ) (words : A → List ℕ) (from : List ℕ → ℕ → A) : Type 0 where
   pub some : 0 < size
@@ -101,11 +114,6 @@ pub parameter-shape : Shape parameterSize parameterWords parameterFrom
 parameter-shape = record { some = omega arith; each = λ p. refl; reads = λ before rest p. simp (getD-append-add, getD-append-seam) }
 
 module _ {A : Type 0} {size : ℕ} {words : A → List ℕ} {from : List ℕ → ℕ → A} (shape : Shape size words from) where
-  pub flat-append : (rows more : List A) → flat words (rows ++ more) ≡ flat words rows ++ flat words more
-  unfolding flat
-  flat-append [] more = refl
-  flat-append (r ∷ rows) more = rw (flat-append rows more, append-assoc)
-
   pub length-flat : (rows : List A) → length (flat words rows) ≡ size * length rows
   unfolding flat
   length-flat [] = rw mul-zero
@@ -123,7 +131,7 @@ module _ {A : Type 0} {size : ℕ} {words : A → List ℕ} {from : List ℕ →
       let fits : size * n + size ≤ length old = rw (← en, add-one, mul-suc) at room in
       let here : size * n ≡ length (flat words rows) = rw (en, length-flat rows) in
       put-inside size n (words r) table (has-row size n (length table) (shape .some) (rw l fits))
-      ∙ rw (held, here, flat-append rows (r ∷ []), one r)
+      ∙ rw (held, here, flat-append words rows (r ∷ []), one r)
       (laid-more (flat words rows) (words r) old (rw (← here, shape .each r) fits))
 
   -- the n-th of rows that stand behind each other

@@ -1,3 +1,5 @@
 pub mod Rows
 pub mod TableRule
 pub mod Trees
+pub mod Lent
+pub mod Fronts

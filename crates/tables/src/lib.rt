@@ -62,47 +62,54 @@ pub fn parameter_rows(table: &[u32]) -> usize
     table.len() / PARAMETER_WORDS
 }
 
-// Writes a row, where the table has room for it; otherwise the table stays.
+// Writes the words of a row, where the table has room for it; otherwise the table stays.
+fn put_row(words: &[u32], table: &mut [u32], row: usize)
+    requires { ⌜ 0 < length (now words) ⌝ }
+    ensures { λ _. ⌜ now (table .exit) ≡ putRow (length (now (words .entry))) row (now (words .entry)) (now (table .entry)) ⌝ }
+{
+    let size = words.len();
+    if table.len() / size <= row {
+        return;
+    }
+    let at = size * row;
+    let mut i: usize = 0;
+    while i < size {
+        table[at + i] = words[i];
+        i += 1;
+    }
+}
+
 pub fn put_component(table: &mut [u32], row: usize, c: ComponentRow)
     ensures { λ _. ⌜ now (table .exit) ≡ putRow componentSize row (componentWords c) (now (table .entry)) ⌝ }
 {
-    if component_rows(table) <= row {
-        return;
-    }
-    let at = COMPONENT_WORDS * row;
-    table[at] = c.parent;
-    table[at + 1] = c.depth;
-    table[at + 2] = c.name_start;
-    table[at + 3] = c.name_len;
+    put_row(&[c.parent, c.depth, c.name_start, c.name_len], table, row)
 }
 
 pub fn put_property(table: &mut [u32], row: usize, p: PropertyRow)
     ensures { λ _. ⌜ now (table .exit) ≡ putRow propertySize row (propertyWords p) (now (table .entry)) ⌝ }
 {
-    if property_rows(table) <= row {
-        return;
-    }
-    let at = PROPERTY_WORDS * row;
-    table[at] = p.owner;
-    table[at + 1] = p.key_start;
-    table[at + 2] = p.key_len;
-    table[at + 3] = p.value_start;
-    table[at + 4] = p.value_len;
+    put_row(
+        &[p.owner, p.key_start, p.key_len, p.value_start, p.value_len],
+        table,
+        row,
+    )
 }
 
 pub fn put_parameter(table: &mut [u32], row: usize, p: ParameterRow)
     ensures { λ _. ⌜ now (table .exit) ≡ putRow parameterSize row (parameterWords p) (now (table .entry)) ⌝ }
 {
-    if parameter_rows(table) <= row {
-        return;
-    }
-    let at = PARAMETER_WORDS * row;
-    table[at] = p.property;
-    table[at + 1] = p.key_start;
-    table[at + 2] = p.key_len;
-    table[at + 3] = p.present;
-    table[at + 4] = p.value_start;
-    table[at + 5] = p.value_len;
+    put_row(
+        &[
+            p.property,
+            p.key_start,
+            p.key_len,
+            p.present,
+            p.value_start,
+            p.value_len,
+        ],
+        table,
+        row,
+    )
 }
 
 // Reads a row that the table has.
@@ -146,4 +153,26 @@ pub fn parameter_at(table: &[u32], row: usize) -> ParameterRow
         value_start: table[at + 4],
         value_len: table[at + 5],
     }
+}
+
+// The one word of a row that a search looks at: a component's depth, a property's owner, a parameter's property.
+pub fn depth_at(table: &[u32], row: usize) -> u32
+    requires { ⌜ row < length (now table) / componentSize ⌝ }
+    ensures { λ r. ⌜ r ≡ componentAt (now (table .entry)) row .depth ⌝ }
+{
+    table[COMPONENT_WORDS * row + 1]
+}
+
+pub fn owner_at(table: &[u32], row: usize) -> u32
+    requires { ⌜ row < length (now table) / propertySize ⌝ }
+    ensures { λ r. ⌜ r ≡ propertyAt (now (table .entry)) row .owner ⌝ }
+{
+    table[PROPERTY_WORDS * row]
+}
+
+pub fn property_of(table: &[u32], row: usize) -> u32
+    requires { ⌜ row < length (now table) / parameterSize ⌝ }
+    ensures { λ r. ⌜ r ≡ parameterAt (now (table .entry)) row .property ⌝ }
+{
+    table[PARAMETER_WORDS * row]
 }

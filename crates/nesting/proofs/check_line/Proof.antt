@@ -32,7 +32,9 @@ closes-requires : tie.Need-closes-requires
 closes-requires c κs = search needs
 
 returns-3 : tie.Need-returns-3
-returns-3 c = λ opens i. rw (c .before .before .before .before .line .given .1) (sym (top-closes i _ _ (c .before .before .if2 .left) ∙ ap (λ (t : Bool). pick t Check.Fine (Check.Bad Refusal.BadEnd)) (sym (c .before .closes .ensures) ∙ c .if3 .taken)))
+returns-3 c =
+    λ opens i. rw (c .before .before .before .before .line .given .1)
+    (sym (top-closes i _ _ (c .before .before .if2 .left) ∙ ap (λ (t : Bool). pick t Check.Fine (Check.Bad Refusal.BadEnd)) (sym (c .before .closes .ensures) ∙ c .if3 .taken)))
 
 enum-told-4 : tie.Need-enum-told-4
 enum-told-4 c = search needs
@@ -56,7 +58,9 @@ returns-8 : tie.Need-returns-8
 returns-8 c = λ opens i. rw (c .enum-told3 .given .1)
 
 returns-9 : tie.Need-returns-9
-returns-9 c = λ opens i. rw (c .before .before .before .before .line .given .1) (sym (top-closes i _ _ (c .before .before .if2 .left) ∙ ap (λ (t : Bool). pick t Check.Fine (Check.Bad Refusal.BadEnd)) (sym (c .before .closes .ensures) ∙ c .if3 .left)))
+returns-9 c =
+    λ opens i. rw (c .before .before .before .before .line .given .1)
+    (sym (top-closes i _ _ (c .before .before .if2 .left) ∙ ap (λ (t : Bool). pick t Check.Fine (Check.Bad Refusal.BadEnd)) (sym (c .before .closes .ensures) ∙ c .if3 .left)))
 
 returns-10 : tie.Need-returns-10
 returns-10 c = λ opens i. rw (c .before .enum-told4 .given .1) (sym (within i Check.Fine (c .if4 .left)))

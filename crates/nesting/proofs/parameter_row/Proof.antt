@@ -7,11 +7,18 @@ use borrow.Author.Needs.{needs}
 use Rattle.nesting.proofs.parameter_row.Statement.{statement}
 use Rattle.nesting.proofs.parameter_row.Tie as tie
 
+-- what the proofs look back to
+abbrev after-value : tie.After-struct-known6 → tie.After-value
+after-value c = c .before .before .before .before .before
+
 -- the value lies within what the parameter uses
 within : (c : tie.After-struct-known3) →
-    let v = c .before .before .value .given in
-    v .0 .0 .start + v .0 .0 .len ≤ c .before .before .before .before .before .args .p .used
-within c = rw (c .before .before .value .given .1) at (c .before .before .before .before .before .pre .1 .1)
+    let a = c .before .before in
+    let v = a .value .given in
+    v .0 .0 .start + v .0 .0 .len ≤ a .before .before .before .args .p .used
+within c =
+    let a = c .before .before in
+    rw (a .value .given .1) at (a .before .before .before .pre .1 .1)
 
 enum-told : tie.Need-enum-told
 enum-told c = search needs
@@ -50,7 +57,7 @@ returns : tie.Need-returns
 returns c = rw (c .before .before .enum-told .given .1)
 
 returns-2 : tie.Need-returns-2
-returns-2 c = rw (c .before .before .before .before .before .value .given .1)
+returns-2 c = rw (after-value c .value .given .1)
 
 pub parameter-row-spec : {M : Type 1} → statement M
 parameter-row-spec =

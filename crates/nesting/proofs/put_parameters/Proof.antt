@@ -1,13 +1,15 @@
 -- `nesting::put_parameters`: some rows are put, and the others are to come.
 -- Assumes nothing.
-use Prim.Native.Nat.{_≤_, _+_, _-_}
+use Prim.Native.Nat.{ℕ, _≤_, _+_, _-_}
 use mathlib.Core.Path.{_≡_, refl, sym, ap, _∙_}
+use mathlib.Core.List.{List}
 use lib.ListN.{length, drop, length-drop}
 use borrow.Author.Needs.{needs}
 use Rattle.tables.specs.Rows.{putRow, parameterSize, parameterWords}
 use Rattle.tables.specs.declared.ParameterRow.{ParameterRow}
 use Rattle.nesting.specs.Rows.{rowsFrom}
 use Rattle.octets.proofs.Lists.{lent}
+use Rattle.parameters.specs.declared.Param.{Param}
 use Rattle.parameters.specs.declared.Front.the-variants.{Found}
 use Rattle.parameters.specs.Parameter.{frontOf}
 use Rattle.parameters.proofs.Laws.{Inside, front-other, found-inside}
@@ -23,17 +25,39 @@ Inv-loop line start from property first table₀ at₀ row₀ table at row = Put
 abbrev μ-loop : tie.MeasureT-loop
 μ-loop line start from property first table₀ at₀ row₀ table at row = length line - at
 
+abbrev At : (tie.InvT-loop → tie.MeasureT-loop → Type 0) → Type 0
+At place = place Inv-loop μ-loop
+
+-- ---- what the proofs look back to
+
+abbrev turn : At tie.After-put-parameter-arg → At tie.At-loop
+turn c = c .before .before .before .before .before .before .before .before .before
+
+abbrev turn-of-none : At tie.After-enum-told → At tie.At-loop
+turn-of-none c = c .before .before .before .before .before .before .before
+
+abbrev before-put : At tie.After-struct-known → At tie.After-put-parameter-arg
+before-put c = c .before .before .before .before .before
+
+abbrev line-of : At tie.At-loop → List ℕ
+line-of l = l .before .before .before .before .args .line .now
+
+abbrev from-of : At tie.At-loop → ℕ
+from-of l = l .loop .at
+
+abbrev parameter-of : At tie.After-put-parameter-arg → Param
+parameter-of c = c .before .before .front .given .0 .0
+
 -- a parameter stands at the front of the rest, and lies within it
-found : (c : tie.After-put-parameter-arg Inv-loop μ-loop) →
-    frontOf (drop (c .before .before .before .before .before .before .before .before .before .loop .at) (c .before .before .before .before .before .before .before .before .before .before .before .before .before .args .line .now)) ≡ Found (c .before .before .front .given .0 .0)
+found : (c : At tie.After-put-parameter-arg) → frontOf (drop (from-of (turn c)) (line-of (turn c))) ≡ Found (parameter-of c)
 found c = sym (rw lent at (c .before .before .before .before .parameter .ensures)) ∙ c .before .before .front .given .1
 
-inside : (c : tie.After-put-parameter-arg Inv-loop μ-loop) →
-    Inside (drop (c .before .before .before .before .before .before .before .before .before .loop .at) (c .before .before .before .before .before .before .before .before .before .before .before .before .before .args .line .now)) (c .before .before .front .given .0 .0)
-inside c = found-inside (drop (c .before .before .before .before .before .before .before .before .before .loop .at) (c .before .before .before .before .before .before .before .before .before .before .before .before .before .args .line .now)) (found c)
+inside : (c : At tie.After-put-parameter-arg) → Inside (drop (from-of (turn c)) (line-of (turn c))) (parameter-of c)
+inside c = found-inside (drop (from-of (turn c)) (line-of (turn c))) (found c)
 
 returns : tie.Need-returns Inv-loop μ-loop
-returns c = let s = c .before .before .before .args in
+returns c =
+    let s = c .before .before .before .args in
     put-empty parameterSize parameterWords (s .first) (rowsFrom (s .property) (s .start) (s .from) (s .line .now)) (s .table .now) (c .if1 .taken)
 
 loop-holds : tie.Need-loop-holds Inv-loop μ-loop
@@ -46,8 +70,9 @@ same-length : tie.Need-same-length Inv-loop μ-loop
 same-length c = c .before .before .before .loop .inv .size
 
 returns-2 : tie.Need-returns-2 Inv-loop μ-loop
-returns-2 c = let l = c .before .before .before in
-    none _ _ _ (l .loop .inv) (front-other (l .before .before .before .before .args .line .now) (l .loop .at) (c .if2 .taken))
+returns-2 c =
+    let l = c .before .before .before in
+    none _ _ _ (l .loop .inv) (front-other (line-of l) (from-of l) (c .if2 .taken))
 
 sub-parameter : tie.Need-sub-parameter Inv-loop μ-loop
 sub-parameter c = omega arith
@@ -68,32 +93,39 @@ enum-told : tie.Need-enum-told Inv-loop μ-loop
 enum-told c = search needs
 
 same-length-2 : tie.Need-same-length-2 Inv-loop μ-loop
-same-length-2 c = c .before .before .before .before .before .before .before .loop .inv .size
+same-length-2 c = turn-of-none c .loop .inv .size
 
 returns-3 : tie.Need-returns-3 Inv-loop μ-loop
-returns-3 c = none _ _ _ (c .before .before .before .before .before .before .before .loop .inv) (sym (rw lent at (c .before .before .parameter .ensures)) ∙ c .enum-told .given .1)
+returns-3 c = none _ _ _ (turn-of-none c .loop .inv) (sym (rw lent at (c .before .before .parameter .ensures)) ∙ c .enum-told .given .1)
 
 add-parameter-row : tie.Need-add-parameter-row Inv-loop μ-loop
 add-parameter-row c = omega arith
 
 parameter-row-requires : tie.Need-parameter-row-requires Inv-loop μ-loop
-parameter-row-requires c κs = let i = inside c in (omega (arith, i .all, length-drop (c .before .before .before .before .before .before .before .before .before .loop .at) (c .before .before .before .before .before .before .before .before .before .before .before .before .before .args .line .now)), (i .key, i .value))
+parameter-row-requires c κs =
+    let i = inside c in
+    (omega (arith, i .all, length-drop (from-of (turn c)) (line-of (turn c))), (i .key, i .value))
 
 put-parameter-requires : tie.Need-put-parameter-requires Inv-loop μ-loop
 put-parameter-requires c κs = tt
 
 add-at : tie.Need-add-at Inv-loop μ-loop
-add-at c = omega (arith, inside (c .before .before .before .before .before) .all, length-drop (c .before .before .before .before .before .before .before .before .before .before .before .before .before .before .loop .at) (c .before .before .before .before .before .before .before .before .before .before .before .before .before .before .before .before .before .before .args .line .now))
+add-at c = omega (arith, inside (before-put c) .all, length-drop (from-of (turn (before-put c))) (line-of (turn (before-put c))))
 
 add-row : tie.Need-add-row Inv-loop μ-loop
 add-row c = omega arith
 
 loop-less : tie.Need-loop-less Inv-loop μ-loop
-loop-less c = let i = inside (c .before .before .before .before .before) in omega (arith, i .all, i .some)
+loop-less c = let i = inside (before-put c) in omega (arith, i .all, i .some)
 
 loop-again : tie.Need-loop-again Inv-loop μ-loop
-loop-again c = let f = c .before .before .before .before .before .before .before .front .given in
-    more _ _ _ (c .before .before .before .before .before .before .before .before .before .before .before .before .before .before .loop .inv) (f .0 .0) (found (c .before .before .before .before .before)) (c .before .before .before .put-parameter .last .0) (c .before .before .before .put-parameter .ensures ∙ ap (λ (r : ParameterRow). putRow parameterSize (c .before .before .before .before .before .before .before .before .before .before .before .before .before .before .loop .row) (parameterWords r) (c .before .before .before .before .before .before .before .before .before .before .before .before .before .before .loop .table)) (c .before .before .before .before .parameter-row .ensures))
+loop-again c =
+    let p = before-put c in
+    let l = turn p .loop in
+    let w = c .before .before .before .put-parameter in
+    let row = c .before .before .before .before .parameter-row .ensures in
+    more _ _ _ (l .inv) (parameter-of p) (found p) (w .last .0)
+    (w .ensures ∙ ap (λ (r : ParameterRow). putRow parameterSize (l .row) (parameterWords r) (l .table)) row)
 
 same-length-3 : tie.Need-same-length-3 Inv-loop μ-loop
 same-length-3 c = c .before .loop .inv .size

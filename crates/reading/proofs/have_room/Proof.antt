@@ -14,7 +14,9 @@ parameter-rows-requires : tie.Need-parameter-rows-requires
 parameter-rows-requires c κs = search needs
 
 returns : tie.Need-returns
-returns c = rw (c .before .before .before .before .before .component-rows .ensures, c .before .before .before .property-rows .ensures, c .before .parameter-rows .ensures)
+returns c =
+    let p = c .before .before .before in
+    rw (p .before .before .component-rows .ensures, p .property-rows .ensures, c .before .parameter-rows .ensures)
 
 pub have-room-spec : {M : Type 1} → statement M
 have-room-spec =

@@ -1,41 +1,70 @@
 -- `reading::read_components`: the limit, the room for the text, and then what the text answers.
 -- Assumes nothing.
-use Prim.Native.Nat.{_≤_, _-_}
-use mathlib.Core.Path.{_≡_, refl, sym, ap, _∙_}
-use mathlib.Core.Bool.{false}
+use Prim.Native.Nat.{ℕ, _≤_, _-_}
+use mathlib.Core.Path.{_≡_, refl, ap, _∙_}
+use mathlib.Core.List.{List}
 use lib.ListN.{length, take}
 use lib.Dec.{eqb}
 use native.Mathlib.Omega.{arith}
-use Rattle.octets.specs.Answers.{done, noTextRoom, longest}
+use Rattle.octets.specs.Answers.{done, noTextRoom}
 use Rattle.unfolding.specs.Unfold.{unfolded}
 use Rattle.unfolding.proofs.Laws.{length-unfolded}
 use Rattle.reading.specs.declared.Reading.{Reading}
-use Rattle.reading.specs.Answers.{refusal, roomFor, readText, whole}
-use Rattle.reading.proofs.Laws.{Left, left-by, tables, untouched, too-long, text-after, no-text-room, reads-text, lent-text, length-whole}
+use Rattle.reading.specs.Answers.{refusal}
+use Rattle.tables.specs.Lent.{Lent, lent}
+use Rattle.reading.specs.Lent.{readInto}
+use Rattle.reading.proofs.Laws.{four, filled-by, untouched, too-long, text-after, no-text-room, reads-text, lent-text, length-whole}
 use borrow.Author.Needs.{needs}
 use Rattle.reading.proofs.read_components.Statement.{statement}
 use Rattle.reading.proofs.read_components.Tie as tie
 
--- the unfolded feed fits, and is what is lent
-fits : (c : tie.Else2) → length (unfolded (c .before .before .before .before .before .before .before .before .before .before .before .args .feed .now)) ≤ length (c .before .before .before .before .before .before .before .before .before .before .before .args .text .now)
-fits c =
-    let u = c .before .before .before .unfold-where-it-fits .ensures in
-    omega (arith, u .0, ap length (u .1), length-whole (unfolded (c .before .before .before .before .before .before .before .before .before .before .before .args .feed .now)) (c .before .before .before .before .before .before .before .before .before .before .before .args .text .now))
+-- what the places of the code see: the feed, what is lent with it, and the call that unfolds the one into the other
+abbrev feed-of : tie.After-slice-known4 → List ℕ
+feed-of c = c .before .before .before .before .before .args .feed .now
 
-is-lent : (c : tie.Else2) → take (c .before .before .before .unfold-where-it-fits .result - 0) (c .before .before .before .unfold-where-it-fits .last .1 .0) ≡ unfolded (c .before .before .before .before .before .before .before .before .before .before .before .args .feed .now)
+abbrev lent-of : tie.After-slice-known4 → Lent
+lent-of c =
+    let a = c .before .before .before .before .before .args in
+    lent (a .text .now) (a .components .now) (a .properties .now) (a .parameters .now)
+
+abbrev entry-of : tie.After-unfold-where-it-fits → tie.After-slice-known4
+entry-of c = c .before .before .before
+
+abbrev part-of : tie.After-read-text → tie.Else2
+part-of c = c .before .before .before .before .before .before
+
+abbrev read-of : tie.After-slice-known8 → tie.After-read-text
+read-of c = c .before .before .before .before .before .before
+
+abbrev in-else2 : tie.After-read-text-arg4 → tie.Else2
+in-else2 c = c .before .before .before .before .before
+
+length-left : (c : tie.After-unfold-where-it-fits) → length (c .unfold-where-it-fits .last .1 .0) ≡ length (lent-of (entry-of c) .text)
+length-left c = ap length (c .unfold-where-it-fits .ensures .1) ∙ length-whole (unfolded (feed-of (entry-of c))) (lent-of (entry-of c) .text)
+
+-- the unfolded feed fits, and is what is lent
+fits : (c : tie.Else2) → length (unfolded (feed-of (entry-of (c .before .before .before)))) ≤ length (lent-of (entry-of (c .before .before .before)) .text)
+fits c = let u = c .before .before .before in omega (arith, u .unfold-where-it-fits .ensures .0, length-left u)
+
+is-lent : (c : tie.Else2) →
+    let u = c .before .before .before in
+    take (u .unfold-where-it-fits .result - 0) (u .unfold-where-it-fits .last .1 .0) ≡ unfolded (feed-of (entry-of u))
 is-lent c =
-    let u = c .before .before .before .unfold-where-it-fits .ensures in
-    lent-text (c .before .before .before .before .before .before .before .before .before .before .before .args .feed .now) (c .before .before .before .before .before .before .before .before .before .before .before .args .text .now) (c .before .before .before .unfold-where-it-fits .last .1 .0) (c .before .before .before .unfold-where-it-fits .result) (u .0) (fits c) (u .1)
+    let u = c .before .before .before in
+    let w = u .unfold-where-it-fits in
+    lent-text (feed-of (entry-of u)) (lent-of (entry-of u) .text) (w .last .1 .0) (w .result) (w .ensures .0) (fits c) (w .ensures .1)
 
 refuse-requires : tie.Need-refuse-requires
 refuse-requires c κs = search needs
 
 returns : tie.Need-returns
-returns c = let a = c .before .before .before .before .before .before .before .args in
-    let t = too-long (c .before .before .before .before .before .before .before .args .feed .now) (c .before .before .before .before .before .before .before .args .text .now) (roomFor (length (c .before .before .before .before .before .before .before .args .components .now)) (length (c .before .before .before .before .before .before .before .args .properties .now)) (length (c .before .before .before .before .before .before .before .args .parameters .now))) (c .before .if1 .taken) in
-    let w : Left (unfolded (a .feed .now)) (whole (c .before .before .before .before .before .before .before .args .feed .now) (c .before .before .before .before .before .before .before .args .text .now) (c .before .before .before .before .before .before .before .args .components .now) (c .before .before .before .before .before .before .before .args .properties .now) (c .before .before .before .before .before .before .before .args .parameters .now)) (c .before .before .before .before .before .before .before .args .components .now) (c .before .before .before .before .before .before .before .args .properties .now) (c .before .before .before .before .before .before .before .args .parameters .now) (c .before .before .before .before .before .before .before .args .components .now) (c .before .before .before .before .before .before .before .args .properties .now) (c .before .before .before .before .before .before .before .args .parameters .now) =
-    untouched (unfolded (a .feed .now)) (whole (c .before .before .before .before .before .before .before .args .feed .now) (c .before .before .before .before .before .before .before .args .text .now) (c .before .before .before .before .before .before .before .args .components .now) (c .before .before .before .before .before .before .before .args .properties .now) (c .before .before .before .before .before .before .before .args .parameters .now)) (c .before .before .before .before .before .before .before .args .components .now) (c .before .before .before .before .before .before .before .args .properties .now) (c .before .before .before .before .before .before .before .args .parameters .now) (ap (λ (r : Reading). eqb (r .answer) done) (sym (t .0))) in
-    (c .refuse .ensures ∙ t .0, (t .1, tables w))
+returns c =
+    let feed = feed-of (c .before .before) in
+    let b = lent-of (c .before .before) in
+    let t = too-long feed b (c .before .if1 .taken) in
+    let e = c .refuse .ensures ∙ t .0 in
+    let w = untouched (unfolded feed) (c .refuse .result) (b .components) (b .properties) (b .parameters) (ap (λ (r : Reading). eqb (r .answer) done) (c .refuse .ensures)) in
+    (e, four feed b e (t .1) w)
 
 unfold-where-it-fits-requires : tie.Need-unfold-where-it-fits-requires
 unfold-where-it-fits-requires c κs = search needs
@@ -47,12 +76,15 @@ same-length : tie.Need-same-length
 same-length c = search needs
 
 returns-2 : tie.Need-returns-2
-returns-2 c = let a = c .before .before .before .before .before .before .before .before .before .before .before .before .args in
-    let u = c .before .before .before .before .unfold-where-it-fits .ensures in
-    let t = no-text-room (c .before .before .before .before .before .before .before .before .before .before .before .before .args .feed .now) (c .before .before .before .before .before .before .before .before .before .before .before .before .args .text .now) (roomFor (length (c .before .before .before .before .before .before .before .before .before .before .before .before .args .components .now)) (length (c .before .before .before .before .before .before .before .before .before .before .before .before .args .properties .now)) (length (c .before .before .before .before .before .before .before .before .before .before .before .before .args .parameters .now))) (c .before .before .before .before .before .before .if1 .left) (omega (arith, u .0, ap length (u .1), length-whole (unfolded (a .feed .now)) (a .text .now))) in
-    let w : Left (unfolded (a .feed .now)) (whole (c .before .before .before .before .before .before .before .before .before .before .before .before .args .feed .now) (c .before .before .before .before .before .before .before .before .before .before .before .before .args .text .now) (c .before .before .before .before .before .before .before .before .before .before .before .before .args .components .now) (c .before .before .before .before .before .before .before .before .before .before .before .before .args .properties .now) (c .before .before .before .before .before .before .before .before .before .before .before .before .args .parameters .now)) (c .before .before .before .before .before .before .before .before .before .before .before .before .args .components .now) (c .before .before .before .before .before .before .before .before .before .before .before .before .args .properties .now) (c .before .before .before .before .before .before .before .before .before .before .before .before .args .parameters .now) (c .before .before .before .before .before .before .before .before .before .before .before .before .args .components .now) (c .before .before .before .before .before .before .before .before .before .before .before .before .args .properties .now) (c .before .before .before .before .before .before .before .before .before .before .before .before .args .parameters .now) =
-    untouched (unfolded (a .feed .now)) (whole (c .before .before .before .before .before .before .before .before .before .before .before .before .args .feed .now) (c .before .before .before .before .before .before .before .before .before .before .before .before .args .text .now) (c .before .before .before .before .before .before .before .before .before .before .before .before .args .components .now) (c .before .before .before .before .before .before .before .before .before .before .before .before .args .properties .now) (c .before .before .before .before .before .before .before .before .before .before .before .before .args .parameters .now)) (c .before .before .before .before .before .before .before .before .before .before .before .before .args .components .now) (c .before .before .before .before .before .before .before .before .before .before .before .before .args .properties .now) (c .before .before .before .before .before .before .before .before .before .before .before .before .args .parameters .now) (ap (λ (r : Reading). eqb (r .answer) done) (sym t)) in
-    (c .refuse2 .ensures ∙ ap (refusal noTextRoom 0) (u .0) ∙ t, (u .1 ∙ text-after (c .before .before .before .before .before .before .before .before .before .before .before .before .args .feed .now) (c .before .before .before .before .before .before .before .before .before .before .before .before .args .text .now) (roomFor (length (c .before .before .before .before .before .before .before .before .before .before .before .before .args .components .now)) (length (c .before .before .before .before .before .before .before .before .before .before .before .before .args .properties .now)) (length (c .before .before .before .before .before .before .before .before .before .before .before .before .args .parameters .now))) (c .before .before .before .before .before .before .if1 .left), tables w))
+returns-2 c =
+    let u = c .before .before .before .before in
+    let x = u .unfold-where-it-fits .ensures in
+    let feed = feed-of (entry-of u) in
+    let b = lent-of (entry-of u) in
+    let short = u .before .before .if1 .left in
+    let e = c .refuse2 .ensures ∙ ap (refusal noTextRoom 0) (x .0) ∙ no-text-room feed b short (omega (arith, x .0, length-left u)) in
+    let w = untouched (unfolded feed) (c .refuse2 .result) (b .components) (b .properties) (b .parameters) (ap (λ (r : Reading). eqb (r .answer) done) (c .refuse2 .ensures)) in
+    (e, four feed b e (x .1 ∙ text-after feed b short) w)
 
 sub-read-text : tie.Need-sub-read-text
 sub-read-text c = search needs
@@ -64,7 +96,10 @@ part-read-text-end : tie.Need-part-read-text-end
 part-read-text-end c = search needs
 
 read-text-requires : tie.Need-read-text-requires
-read-text-requires c κs = rw (is-lent (c .before .before .before .before .before)) (omega (arith, length-unfolded (c .before .before .before .before .before .before .before .before .before .before .before .before .before .before .before .before .args .feed .now), c .before .before .before .before .before .before .before .before .before .before .if1 .left))
+read-text-requires c κs =
+    let d = in-else2 c in
+    let u = d .before .before .before in
+    rw (is-lent d) (omega (arith, length-unfolded (feed-of (entry-of u)), u .before .before .if1 .left))
 
 same-length-2 : tie.Need-same-length-2
 same-length-2 c = search needs
@@ -79,14 +114,15 @@ same-length-5 : tie.Need-same-length-5
 same-length-5 c = search needs
 
 returns-3 : tie.Need-returns-3
-returns-3 c = let a = c .before .before .before .before .before .before .before .before .before .before .before .before .before .before .before .before .before .before .before .before .before .before .before .args in
-    let u = c .before .before .before .before .before .before .before .before .before .before .before .before .before .before .before .unfold-where-it-fits .ensures in
-    let rt = c .before .before .before .before .before .before .read-text .ensures in
-    let t = reads-text (c .before .before .before .before .before .before .before .before .before .before .before .before .before .before .before .before .before .before .before .before .before .before .before .args .feed .now) (c .before .before .before .before .before .before .before .before .before .before .before .before .before .before .before .before .before .before .before .before .before .before .before .args .text .now) (roomFor (length (c .before .before .before .before .before .before .before .before .before .before .before .before .before .before .before .before .before .before .before .before .before .before .before .args .components .now)) (length (c .before .before .before .before .before .before .before .before .before .before .before .before .before .before .before .before .before .before .before .before .before .before .before .args .properties .now)) (length (c .before .before .before .before .before .before .before .before .before .before .before .before .before .before .before .before .before .before .before .before .before .before .before .args .parameters .now))) (c .before .before .before .before .before .before .before .before .before .before .before .before .before .before .before .before .before .if1 .left) (fits (c .before .before .before .before .before .before .before .before .before .before .before .before)) in
-    let e : c .before .before .before .before .before .before .read-text .result ≡ whole (c .before .before .before .before .before .before .before .before .before .before .before .before .before .before .before .before .before .before .before .before .before .before .before .args .feed .now) (c .before .before .before .before .before .before .before .before .before .before .before .before .before .before .before .before .before .before .before .before .before .before .before .args .text .now) (c .before .before .before .before .before .before .before .before .before .before .before .before .before .before .before .before .before .before .before .before .before .before .before .args .components .now) (c .before .before .before .before .before .before .before .before .before .before .before .before .before .before .before .before .before .before .before .before .before .before .before .args .properties .now) (c .before .before .before .before .before .before .before .before .before .before .before .before .before .before .before .before .before .before .before .before .before .before .before .args .parameters .now) = rt .0 ∙ rw (is-lent (c .before .before .before .before .before .before .before .before .before .before .before .before)) t in
-    let w : Left _ (c .before .before .before .before .before .before .read-text .result) (c .before .before .before .before .before .before .before .before .before .before .before .before .before .before .before .before .before .before .before .before .before .before .before .args .components .now) (c .before .before .before .before .before .before .before .before .before .before .before .before .before .before .before .before .before .before .before .before .before .before .before .args .properties .now) (c .before .before .before .before .before .before .before .before .before .before .before .before .before .before .before .before .before .before .before .before .before .before .before .args .parameters .now) (c .before .before .before .before .before .before .read-text .last .1 .0) (c .before .before .before .before .before .before .read-text .last .1 .1 .0) (c .before .before .before .before .before .before .read-text .last .1 .1 .1 .0) =
-    record { components = rt .1 .0; properties = rt .1 .1 .0; parameters = rt .1 .1 .1 } in
-    (e, (u .1 ∙ text-after (c .before .before .before .before .before .before .before .before .before .before .before .before .before .before .before .before .before .before .before .before .before .before .before .args .feed .now) (c .before .before .before .before .before .before .before .before .before .before .before .before .before .before .before .before .before .before .before .before .before .before .before .args .text .now) (roomFor (length (c .before .before .before .before .before .before .before .before .before .before .before .before .before .before .before .before .before .before .before .before .before .before .before .args .components .now)) (length (c .before .before .before .before .before .before .before .before .before .before .before .before .before .before .before .before .before .before .before .before .before .before .before .args .properties .now)) (length (c .before .before .before .before .before .before .before .before .before .before .before .before .before .before .before .before .before .before .before .before .before .before .before .args .parameters .now))) (c .before .before .before .before .before .before .before .before .before .before .before .before .before .before .before .before .before .if1 .left), tables (left-by (is-lent (c .before .before .before .before .before .before .before .before .before .before .before .before)) e w)))
+returns-3 c =
+    let x = read-of c .read-text .ensures in
+    let d = part-of (read-of c) in
+    let u = d .before .before .before in
+    let feed = feed-of (entry-of u) in
+    let b = lent-of (entry-of u) in
+    let short = u .before .before .if1 .left in
+    let e : read-of c .read-text .result ≡ readInto feed b = x .0 ∙ rw (is-lent d) (reads-text feed b short (fits d)) in
+    (e, four feed b e (u .unfold-where-it-fits .ensures .1 ∙ text-after feed b short) (filled-by (is-lent d) refl (x .1)))
 
 pub read-components-spec : {M : Type 1} → statement M
 read-components-spec =

@@ -1,7 +1,7 @@
 -- `reading::read_text`: the rows are counted first, and put only where there is room for all of them.
 -- Assumes nothing.
-use mathlib.Core.Path.{_≡_, refl, sym, ap, _∙_}
-use mathlib.Core.Bool.{Bool, true, false}
+use mathlib.Core.Path.{refl, sym, ap, _∙_}
+use mathlib.Core.Bool.{true, false}
 use Prim.Native.Nat.{ℕ}
 use lib.ListN.{length}
 use lib.Dec.{eqb}
@@ -9,10 +9,29 @@ use Rattle.reading.specs.Answers.{refusal}
 use borrow.Author.Tests.{not-true, not-false}
 use Rattle.octets.specs.Answers.{done}
 use Rattle.reading.specs.declared.Reading.{Reading}
-use Rattle.reading.proofs.Laws.{answers, fills, refused-text, refusal-number, untouched, left-by, tables}
+use Rattle.reading.proofs.Laws.{answers, fills, refused-text, refusal-number, untouched, filled-by}
 use borrow.Author.Needs.{needs}
 use Rattle.reading.proofs.read_text.Statement.{statement}
 use Rattle.reading.proofs.read_text.Tie as tie
+
+-- what the proofs look back to
+abbrev start-of-refusal : tie.After-refuse → tie.Start
+start-of-refusal c = c .before .before .before .before .before .before .before .before .before .before
+
+abbrev at-start : tie.After-outcome2 → tie.Start
+at-start c = c .before .before .before .before .before .before .before
+
+abbrev counted-without-room : tie.After-tell → tie.After-outcome2
+counted-without-room c = c .before .before .before .before .before .before .before
+
+abbrev after-pass : tie.After-tell2 → tie.After-pass
+after-pass c = c .before .before .before .before .before .before .before
+
+abbrev with-room : tie.After-tell2 → tie.Else1
+with-room c = after-pass c .before .before .before .before
+
+abbrev counted : tie.After-tell2 → tie.After-outcome2
+counted c = with-room c .before .before .before .before .before .before
 
 count-requires : tie.Need-count-requires
 count-requires c κs = search needs
@@ -45,11 +64,11 @@ same-length-3 : tie.Need-same-length-3
 same-length-3 c = search needs
 
 returns : tie.Need-returns
-returns c = let a = c .before .before .before .before .before .before .before .before .before .before .before .before .before .before .args in
-    let e = sym (c .before .before .before .before .before .before .before .before .before .count .ensures) ∙ c .before .before .before .before .before .before .before .outcome2 .given .1 in
+returns c = let a = at-start (counted-without-room c) .args in
+    let e = sym (counted-without-room c .before .before .count .ensures) ∙ counted-without-room c .outcome2 .given .1 in
     let f = sym (c .before .before .have-room .ensures) ∙ not-true _ (c .before .if1 .taken) in
     let w = untouched (a .text .now) (c .tell .result) (a .components .now) (a .properties .now) (a .parameters .now) (ap (λ (r : Reading). eqb (r .answer) done) (c .tell .ensures)) in
-    (c .tell .ensures ∙ sym (answers (a .text .now) (a .components .now) (a .properties .now) (a .parameters .now) _ e false f), tables w)
+    (c .tell .ensures ∙ sym (answers (a .text .now) (a .components .now) (a .properties .now) (a .parameters .now) _ e false f), w)
 
 pass-requires : tie.Need-pass-requires
 pass-requires c κs = search needs
@@ -58,11 +77,14 @@ tell-requires-2 : tie.Need-tell-requires-2
 tell-requires-2 c κs = search needs
 
 returns-2 : tie.Need-returns-2
-returns-2 c = let a = c .before .before .before .before .before .before .before .before .before .before .args in
-    let e = sym (c .before .before .before .before .before .count .ensures) ∙ c .before .before .before .outcome .given .1 in
-    let n = c .refuse .ensures ∙ ap (λ (k : ℕ). refusal k (c .before .before .before .outcome .given .0 .1 .0) (length (a .text .now))) (c .before .number-of .ensures) in
-    let w = untouched (a .text .now) (c .refuse .result) (a .components .now) (a .properties .now) (a .parameters .now) (ap (λ (r : Reading). eqb (r .answer) done) n ∙ refusal-number (c .before .before .before .outcome .given .0 .0)) in
-    (n ∙ sym (refused-text (a .text .now) _ _ _ e), tables w)
+returns-2 c =
+    let o = c .before .before .before in
+    let a = start-of-refusal c .args in
+    let e = sym (o .before .before .count .ensures) ∙ o .outcome .given .1 in
+    let n = c .refuse .ensures ∙ ap (λ (k : ℕ). refusal k (o .outcome .given .0 .1 .0) (length (a .text .now))) (c .before .number-of .ensures) in
+    let w = untouched (a .text .now) (c .refuse .result) (a .components .now) (a .properties .now) (a .parameters .now)
+    (ap (λ (r : Reading). eqb (r .answer) done) n ∙ refusal-number (o .outcome .given .0 .0)) in
+    (n ∙ sym (refused-text (a .text .now) _ _ _ e), w)
 
 same-length-4 : tie.Need-same-length-4
 same-length-4 c = search needs
@@ -74,11 +96,11 @@ same-length-6 : tie.Need-same-length-6
 same-length-6 c = search needs
 
 returns-3 : tie.Need-returns-3
-returns-3 c = let a = c .before .before .before .before .before .before .before .before .before .before .before .before .before .before .before .before .before .before .before .before .before .before .before .before .args in
-    let e = sym (c .before .before .before .before .before .before .before .before .before .before .before .before .before .before .before .before .before .before .before .count .ensures) ∙ c .before .before .before .before .before .before .before .before .before .before .before .before .before .before .before .before .before .outcome2 .given .1 in
-    let f = sym (c .before .before .before .before .before .before .before .before .before .before .before .before .have-room .ensures) ∙ not-false _ (c .before .before .before .before .before .before .before .before .before .before .before .if1 .left) in
-    let w = fills (a .text .now) (a .components .now) (a .properties .now) (a .parameters .now) _ e f _ _ _ (c .before .before .before .before .before .before .before .pass .ensures .1) in
-    (c .tell2 .ensures ∙ sym (answers (a .text .now) (a .components .now) (a .properties .now) (a .parameters .now) _ e true f), tables (left-by refl (sym (c .tell2 .ensures)) w))
+returns-3 c = let a = at-start (counted c) .args in
+    let e = sym (counted c .before .before .count .ensures) ∙ counted c .outcome2 .given .1 in
+    let f = sym (with-room c .before .have-room .ensures) ∙ not-false _ (with-room c .if1 .left) in
+    let w = fills (a .text .now) (a .components .now) (a .properties .now) (a .parameters .now) _ e f _ _ _ (after-pass c .pass .ensures .1) in
+    (c .tell2 .ensures ∙ sym (answers (a .text .now) (a .components .now) (a .properties .now) (a .parameters .now) _ e true f), filled-by refl (sym (c .tell2 .ensures)) w)
 
 pub read-text-spec : {M : Type 1} → statement M
 read-text-spec =

@@ -8,6 +8,16 @@ use borrow.Author.Needs.{needs}
 use Rattle.reading.proofs.unfold_where_it_fits.Statement.{statement}
 use Rattle.reading.proofs.unfold_where_it_fits.Tie as tie
 
+-- what the proofs look back to
+abbrev start-of-long-text : tie.After-slice-known2 → tie.Start
+start-of-long-text c = c .before .before .before .before .before .before .before
+
+abbrev start-of-short-text : tie.Then2 → tie.Start
+start-of-short-text c = c .before .before .before .before .before .before .before
+
+abbrev start-of-counted : tie.After-slice-known3 → tie.Start
+start-of-counted c = c .before .before .before .before .before .before .before .before .before .before .before
+
 unfold-into-requires : tie.Need-unfold-into-requires
 unfold-into-requires c κs = search needs
 
@@ -15,7 +25,7 @@ same-length : tie.Need-same-length
 same-length c = search needs
 
 returns : tie.Need-returns
-returns c = let s = c .before .before .before .before .before .before .before .args in
+returns c = let s = start-of-long-text c .args in
     let u = c .before .before .unfold-into .ensures in
     (u .count, u .text ∙ text-fits (unfolded (s .feed .now)) (s .text .now) (omega (arith, length-unfolded (s .feed .now))))
 
@@ -26,7 +36,7 @@ unfold-into-requires-2 : tie.Need-unfold-into-requires-2
 unfold-into-requires-2 c κs = search needs
 
 returns-2 : tie.Need-returns-2
-returns-2 c = let s = c .before .before .before .before .before .before .before .args in
+returns-2 c = let s = start-of-short-text c .args in
     let u = c .before .before .unfold-into2 .ensures in
     (u .count, text-stays (unfolded (s .feed .now)) (s .text .now) (omega (arith, u .count)))
 
@@ -37,7 +47,7 @@ same-length-2 : tie.Need-same-length-2
 same-length-2 c = search needs
 
 returns-3 : tie.Need-returns-3
-returns-3 c = let s = c .before .before .before .before .before .before .before .before .before .before .before .args in
+returns-3 c = let s = start-of-counted c .args in
     let u = c .before .before .unfold-into3 .ensures in
     (u .count, u .text ∙ text-fits (unfolded (s .feed .now)) (s .text .now) (omega (arith, u .count)))
 
