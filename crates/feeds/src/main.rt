@@ -14,10 +14,10 @@ fn list_file(name: &[u8]) {
         os::fail(name);
         return;
     }
-    let mut feed = [0u8; 16385];
+    let mut feed = [0u8; listing::LONGEST + 1];
     let n = io::read_full(fd, &mut feed);
     libc::close(fd);
-    let mut out = [0u8; 32768];
+    let mut out = [0u8; listing::ROOM];
     let listed = listing::list_feed(octets::view(&feed, 0, n), &mut out);
     say(octets::view(&out, 0, listed));
 }

@@ -11,32 +11,8 @@ fn say_output(o: Output) {
     say(b"\n");
 }
 
-// Reads a front of the feed, of 1,048,576 bytes or of one more.
-fn read_long(feed: &[u8], text: &mut [u8]) {
-    let mut components = [0u32; 4];
-    let mut properties = [0u32; 5];
-    let mut parameters = [0u32; 0];
-    let r = reading::read_components(
-        feed,
-        text,
-        &mut components,
-        &mut properties,
-        &mut parameters,
-    );
-    say_reading(r);
-}
-
 // An array of this size is lent as a slice only by way of a function that takes the array.
-fn longest_feeds(feed: &mut [u8; 1048577], text: &mut [u8; 1048577]) {
-    say(b"feed of 1048576 bytes:");
-    trial::stretch(1048576, feed);
-    read_long(octets::view(feed, 0, 1048576), text);
-    say(b"feed of 1048577 bytes:");
-    trial::stretch(1048577, feed);
-    read_long(feed, text);
-}
-
-fn longest_values(value: &[u8; 1048577], out: &mut [u8; 1048577]) {
+fn longest_values(value: &[u8; trial::OVER], out: &mut [u8; trial::OVER]) {
     say(b"quoting 1048576 bytes:");
     say_output(quoting::quote_special_chars(octets::view(value, 0, 1048576), out));
     say(b"quoting 1048577 bytes:");
@@ -53,23 +29,6 @@ fn read_with_rows(
     parameters: &mut [u32],
 ) {
     say_reading(reading::read_components(feed, text, components, properties, parameters));
-}
-
-// So many components inside each other.
-fn nest(depth: usize) {
-    let mut feed = [0u8; 1024];
-    let n = trial::nest(depth, &mut feed);
-    let mut text = [0u8; 1024];
-    let mut components = [0u32; 260];
-    let mut none = [0u32; 0];
-    let mut nothing = [0u32; 0];
-    read_with_rows(
-        octets::view(&feed, 0, n),
-        &mut text,
-        &mut components,
-        &mut none,
-        &mut nothing,
-    );
 }
 
 // Two components, two properties, two parameters, and 49 bytes of unfolded text.
@@ -213,15 +172,18 @@ fn quote() {
 }
 
 fn main() {
-    let mut feed = [b'a'; 1048577];
-    let mut text = [0u8; 1048577];
-    longest_feeds(&mut feed, &mut text);
-    let line = [b'a'; 1048577];
+    let mut feed = [b'a'; trial::OVER];
+    let mut text = [0u8; trial::OVER];
+    say(b"feed of 1048576 bytes:");
+    trial::read_long(1048576, &mut feed, &mut text);
+    say(b"feed of 1048577 bytes:");
+    trial::read_long(1048577, &mut feed, &mut text);
+    let line = [b'a'; trial::OVER];
     longest_values(&line, &mut text);
     say(b"depth 64:");
-    nest(64);
+    trial::read_nested(64);
     say(b"depth 65:");
-    nest(65);
+    trial::read_nested(65);
     empty_feed();
     empty_lines();
     full();

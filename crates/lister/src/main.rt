@@ -49,11 +49,11 @@ fn read_input(feed: &mut [u8]) -> Input {
     Input::Read(at)
 }
 
-// The listing of so many bytes in so few rows is never longer than this buffer.
+// A listing always fits, so that what is printed is all of it.
 fn print_listing(feed: &[u8]) {
-    let mut out = [0u8; 32768];
+    let mut out = [0u8; listing::ROOM];
     let n = listing::list_feed(feed, &mut out);
-    if !io::write_all(STDOUT_FILENO, octets::view(&out, 0, n)) {
+    if !io::write_all(STDOUT_FILENO, &out[0..n]) {
         io::write_all(
             STDERR_FILENO,
             b"lister: standard output could not be written\n",
@@ -63,7 +63,7 @@ fn print_listing(feed: &[u8]) {
 
 fn main() {
     // One byte more than is listed shows that there is more.
-    let mut feed = [0u8; 16385];
+    let mut feed = [0u8; listing::LONGEST + 1];
     let input = read_input(&mut feed);
     if let Input::Read(n) = input {
         print_listing(octets::view(&feed, 0, n));

@@ -11,11 +11,13 @@ use Rattle.octets.specs.Views.{viewed}
 use Rattle.octets.specs.Answers.{done, tooLong}
 use Rattle.tables.specs.Rows.{noParent}
 use Rattle.tables.specs.declared.ParameterRow.{ParameterRow}
-use Rattle.reading.specs.Answers.{refusal, whole, textAfter, componentsAfter, propertiesAfter, parametersAfter}
+use Rattle.reading.specs.Answers.{refusal}
+use Rattle.tables.specs.Lent.{Lent}
+use Rattle.reading.specs.Lent.{readInto, left}
 use Rattle.reading.specs.declared.Reading.{Reading}
 use Rattle.listing.specs.Texts.{field, digit, digits, decimal, parentField}
 use Rattle.listing.specs.Lines.{parameterLine, linesFrom, sectionText, refused}
-use Rattle.listing.specs.Listing.{longestListed, listed, listing}
+use Rattle.listing.specs.Listing.{longestListed, listed, listing, leftListed}
 use Rattle.listing.specs.declared.Section.the-variants.{Components, Properties, Parameters}
 
 -- ---- digits
@@ -65,19 +67,19 @@ module _ (line : ℕ → List ℕ) (row count : ℕ) where
 
 -- ---- which text stands where
 
-module _ (r : Reading) (text c p q : List ℕ) where
-  pub a-refusal : (r .answer ≡ done → ⊥) → refused r ≡ listed r text c p q
+module _ (r : Reading) (b : Lent) where
+  pub a-refusal : (r .answer ≡ done → ⊥) → refused r ≡ listed r b
   a-refusal f = rw (ne-eqb (r .answer) done f)
 
   pub sections : r .answer ≡ done
-      → sectionText Components text c (r .components) ++ (sectionText Properties text p (r .properties) ++ sectionText Parameters text q (r .parameters)) ≡ listed r text c p q
+      → sectionText Components (b .text) (b .components) (r .components)
+      ++ (sectionText Properties (b .text) (b .properties) (r .properties) ++ sectionText Parameters (b .text) (b .parameters) (r .parameters)) ≡ listed r b
   sections e = rw (eq-eqb (r .answer) done e)
 
-module _ (feed text c p q : List ℕ) where
-  pub too-long : longestListed < length feed → refused (refusal tooLong 0 0) ≡ listing feed text c p q
-  too-long h = rw (lt-leb (length feed) longestListed h)
+module _ (feed : List ℕ) (b : Lent) where
+  pub too-long : longestListed < length feed → (refused (refusal tooLong 0 0) ≡ listing feed b) × (b ≡ leftListed feed b)
+  too-long h = let e = lt-leb (length feed) longestListed h in (rw e, rw e)
 
-  pub read : length feed ≤ longestListed → {r : Reading} {text′ c′ p′ q′ : List ℕ} → r ≡ whole feed text c p q → text′ ≡ textAfter feed text
-      → c′ ≡ componentsAfter feed text c p q → p′ ≡ propertiesAfter feed text c p q → q′ ≡ parametersAfter feed text c p q
-      → listed r text′ c′ p′ q′ ≡ listing feed text c p q
-  read h e t a b d = rw (e, t, a, b, d, le-leb (length feed) longestListed h)
+  pub read : length feed ≤ longestListed → {r : Reading} {b′ : Lent} → r ≡ readInto feed b → b′ ≡ left feed b
+      → (listed r b′ ≡ listing feed b) × (b′ ≡ leftListed feed b)
+  read h e f = let g = le-leb (length feed) longestListed h in (rw (e, f, g), rw g f)

@@ -2,10 +2,11 @@
 ghost use mathlib.Core.Path.{_≡_};
 ghost use Prim.Native.Nat.{_+_, _≤_, _<_, _/_};
 ghost use lib.ListN.{length};
-ghost use Rattle.octets.specs.Laid.{laid, laidFrom, counted};
+ghost use Rattle.octets.specs.Laid.{Lays};
 ghost use Rattle.listing.specs.Texts.{field, digit, digits, decimal, parentField};
 ghost use Rattle.listing.specs.Lines.{componentLine, propertyLine, parameterLine, rowSize, rowLine, linesFrom, heading, sectionText, refused};
-ghost use Rattle.listing.specs.Listing.{HasRows, listed, listing, textLeft, componentsLeft, propertiesLeft, parametersLeft, listingOf};
+ghost use Rattle.listing.specs.Listing.{HasRows, listed, listing, leftListed, listingOf};
+ghost use Rattle.tables.specs.Lent.{lent};
 use reading::Reading;
 use tables::ComponentRow;
 use tables::ParameterRow;
@@ -13,6 +14,17 @@ use tables::PropertyRow;
 
 // The most bytes of a feed that is listed.
 pub const LONGEST: usize = 16_384;
+
+// Room for the listing of any such feed.
+pub const ROOM: usize = 32_768;
+
+// The words of 128 components, 512 properties and 512 parameters.
+const COMPONENTS: usize = 128 * tables::COMPONENT_WORDS;
+
+const PROPERTIES: usize = 512 * tables::PROPERTY_WORDS;
+
+const PARAMETERS: usize = 512 * tables::PARAMETER_WORDS;
+
 // A number of 64 bits has at most so many digits.
 const PLACES: usize = 20;
 
@@ -25,7 +37,7 @@ pub enum Section {
 
 // Lays the bytes and the one byte that ends them.
 fn lay_field(bytes: &[u8], end: u8, out: &mut [u8], at: usize) -> usize
-    ensures { λ r. ⌜ (r ≡ counted (at + length (field (now (bytes .entry)) end))) × (now (out .exit) ≡ laidFrom at (field (now (bytes .entry)) end) (now (out .entry))) ⌝ }
+    ensures { λ r. ⌜ Lays at (field (now (bytes .entry)) end) (now (out .entry)) (now (out .exit)) r ⌝ }
 {
     let to = octets::lay(bytes, out, at);
     octets::lay(&[end], out, to)
@@ -39,7 +51,7 @@ fn digit_of(n: usize) -> u8
 
 // Lays the last digits of a number, as many as there are places, without zeros in front.
 fn lay_digits(places: usize, n: usize, out: &mut [u8], at: usize) -> usize
-    ensures { λ r. ⌜ (r ≡ counted (at + length (digits places n))) × (now (out .exit) ≡ laidFrom at (digits places n) (now (out .entry))) ⌝ }
+    ensures { λ r. ⌜ Lays at (digits places n) (now (out .entry)) (now (out .exit)) r ⌝ }
 {
     if places == 0 {
         return at;
@@ -52,14 +64,14 @@ fn lay_digits(places: usize, n: usize, out: &mut [u8], at: usize) -> usize
 }
 
 fn lay_number(n: usize, end: u8, out: &mut [u8], at: usize) -> usize
-    ensures { λ r. ⌜ (r ≡ counted (at + length (field (decimal n) end))) × (now (out .exit) ≡ laidFrom at (field (decimal n) end) (now (out .entry))) ⌝ }
+    ensures { λ r. ⌜ Lays at (field (decimal n) end) (now (out .entry)) (now (out .exit)) r ⌝ }
 {
     let to = lay_digits(PLACES, n, out, at);
     octets::lay(&[end], out, to)
 }
 
 fn lay_parent(parent: u32, out: &mut [u8], at: usize) -> usize
-    ensures { λ r. ⌜ (r ≡ counted (at + length (parentField parent))) × (now (out .exit) ≡ laidFrom at (parentField parent) (now (out .entry))) ⌝ }
+    ensures { λ r. ⌜ Lays at (parentField parent) (now (out .entry)) (now (out .exit)) r ⌝ }
 {
     if parent == tables::NO_PARENT {
         return lay_field(b"-", b' ', out, at);
@@ -68,7 +80,7 @@ fn lay_parent(parent: u32, out: &mut [u8], at: usize) -> usize
 }
 
 fn lay_component(text: &[u8], row: ComponentRow, out: &mut [u8], at: usize) -> usize
-    ensures { λ r. ⌜ (r ≡ counted (at + length (componentLine (now (text .entry)) row))) × (now (out .exit) ≡ laidFrom at (componentLine (now (text .entry)) row) (now (out .entry))) ⌝ }
+    ensures { λ r. ⌜ Lays at (componentLine (now (text .entry)) row) (now (out .entry)) (now (out .exit)) r ⌝ }
 {
     let name = octets::view(text, row.name_start as usize, row.name_len as usize);
     let to = lay_parent(row.parent, out, at);
@@ -77,7 +89,7 @@ fn lay_component(text: &[u8], row: ComponentRow, out: &mut [u8], at: usize) -> u
 }
 
 fn lay_property(text: &[u8], row: PropertyRow, out: &mut [u8], at: usize) -> usize
-    ensures { λ r. ⌜ (r ≡ counted (at + length (propertyLine (now (text .entry)) row))) × (now (out .exit) ≡ laidFrom at (propertyLine (now (text .entry)) row) (now (out .entry))) ⌝ }
+    ensures { λ r. ⌜ Lays at (propertyLine (now (text .entry)) row) (now (out .entry)) (now (out .exit)) r ⌝ }
 {
     let key = octets::view(text, row.key_start as usize, row.key_len as usize);
     let value = octets::view(text, row.value_start as usize, row.value_len as usize);
@@ -87,7 +99,7 @@ fn lay_property(text: &[u8], row: PropertyRow, out: &mut [u8], at: usize) -> usi
 }
 
 fn lay_parameter(text: &[u8], row: ParameterRow, out: &mut [u8], at: usize) -> usize
-    ensures { λ r. ⌜ (r ≡ counted (at + length (parameterLine (now (text .entry)) row))) × (now (out .exit) ≡ laidFrom at (parameterLine (now (text .entry)) row) (now (out .entry))) ⌝ }
+    ensures { λ r. ⌜ Lays at (parameterLine (now (text .entry)) row) (now (out .entry)) (now (out .exit)) r ⌝ }
 {
     let key = octets::view(text, row.key_start as usize, row.key_len as usize);
     let value = octets::view(text, row.value_start as usize, row.value_len as usize);
@@ -109,7 +121,7 @@ fn lay_row(
     at: usize,
 ) -> usize
     requires { ⌜ row < length (now table) / rowSize which ⌝ }
-    ensures { λ r. ⌜ (r ≡ counted (at + length (rowLine which (now (text .entry)) (now (table .entry)) row))) × (now (out .exit) ≡ laidFrom at (rowLine which (now (text .entry)) (now (table .entry)) row) (now (out .entry))) ⌝ }
+    ensures { λ r. ⌜ Lays at (rowLine which (now (text .entry)) (now (table .entry)) row) (now (out .entry)) (now (out .exit)) r ⌝ }
 {
     match which {
         Section::Components => lay_component(text, tables::component_at(table, row), out, at),
@@ -127,7 +139,7 @@ fn lay_rows(
     at: usize,
 ) -> usize
     requires { ⌜ count ≤ length (now table) / rowSize which ⌝ }
-    ensures { λ r. ⌜ (r ≡ counted (at + length (linesFrom (rowLine which (now (text .entry)) (now (table .entry))) 0 count))) × (now (out .exit) ≡ laidFrom at (linesFrom (rowLine which (now (text .entry)) (now (table .entry))) 0 count) (now (out .entry))) ⌝ }
+    ensures { λ r. ⌜ Lays at (linesFrom (rowLine which (now (text .entry)) (now (table .entry))) 0 count) (now (out .entry)) (now (out .exit)) r ⌝ }
 {
     let mut to = at;
     let mut row: usize = 0;
@@ -139,7 +151,7 @@ fn lay_rows(
 }
 
 fn lay_heading(which: Section, out: &mut [u8], at: usize) -> usize
-    ensures { λ r. ⌜ (r ≡ counted (at + length (heading which))) × (now (out .exit) ≡ laidFrom at (heading which) (now (out .entry))) ⌝ }
+    ensures { λ r. ⌜ Lays at (heading which) (now (out .entry)) (now (out .exit)) r ⌝ }
 {
     match which {
         Section::Components => lay_field(b"components", b' ', out, at),
@@ -158,7 +170,7 @@ fn lay_section(
     at: usize,
 ) -> usize
     requires { ⌜ count ≤ length (now table) / rowSize which ⌝ }
-    ensures { λ r. ⌜ (r ≡ counted (at + length (sectionText which (now (text .entry)) (now (table .entry)) count))) × (now (out .exit) ≡ laidFrom at (sectionText which (now (text .entry)) (now (table .entry)) count) (now (out .entry))) ⌝ }
+    ensures { λ r. ⌜ Lays at (sectionText which (now (text .entry)) (now (table .entry)) count) (now (out .entry)) (now (out .exit)) r ⌝ }
 {
     let to = lay_heading(which, out, at);
     let to = lay_number(count, b'\n', out, to);
@@ -167,7 +179,7 @@ fn lay_section(
 
 // Lays the one line of a refusal: the word, and the six numbers of the reading.
 fn lay_refusal(r: Reading, out: &mut [u8]) -> usize
-    ensures { λ n. ⌜ (n ≡ counted (length (refused r))) × (now (out .exit) ≡ laid (refused r) (now (out .entry))) ⌝ }
+    ensures { λ n. ⌜ Lays 0 (refused r) (now (out .entry)) (now (out .exit)) n ⌝ }
 {
     let to = lay_field(b"refused", b' ', out, 0);
     let to = lay_number(r.answer as usize, b' ', out, to);
@@ -187,8 +199,8 @@ fn lay_listing(
     parameters: &[u32],
     out: &mut [u8],
 ) -> usize
-    requires { ⌜ HasRows r (now components) (now properties) (now parameters) ⌝ }
-    ensures { λ n. ⌜ (n ≡ counted (length (listed r (now (text .entry)) (now (components .entry)) (now (properties .entry)) (now (parameters .entry))))) × (now (out .exit) ≡ laid (listed r (now (text .entry)) (now (components .entry)) (now (properties .entry)) (now (parameters .entry))) (now (out .entry))) ⌝ }
+    requires { ⌜ HasRows r (lent (now text) (now components) (now properties) (now parameters)) ⌝ }
+    ensures { λ n. ⌜ Lays 0 (listed r (lent (now (text .entry)) (now (components .entry)) (now (properties .entry)) (now (parameters .entry)))) (now (out .entry)) (now (out .exit)) n ⌝ }
 {
     if r.answer != octets::DONE {
         return lay_refusal(r, out);
@@ -207,12 +219,10 @@ pub fn list(
     parameters: &mut [u32],
     out: &mut [u8],
 ) -> usize
-    ensures { λ n. ⌜ n ≡ counted (length (listing (now (feed .entry)) (now (text .entry)) (now (components .entry)) (now (properties .entry)) (now (parameters .entry)))) ⌝ }
-    ensures { λ _. ⌜ now (out .exit) ≡ laid (listing (now (feed .entry)) (now (text .entry)) (now (components .entry)) (now (properties .entry)) (now (parameters .entry))) (now (out .entry)) ⌝ }
-    ensures { λ _. ⌜ now (text .exit) ≡ textLeft (now (feed .entry)) (now (text .entry)) (now (components .entry)) (now (properties .entry)) (now (parameters .entry)) ⌝ }
-    ensures { λ _. ⌜ now (components .exit) ≡ componentsLeft (now (feed .entry)) (now (text .entry)) (now (components .entry)) (now (properties .entry)) (now (parameters .entry)) ⌝ }
-    ensures { λ _. ⌜ now (properties .exit) ≡ propertiesLeft (now (feed .entry)) (now (text .entry)) (now (components .entry)) (now (properties .entry)) (now (parameters .entry)) ⌝ }
-    ensures { λ _. ⌜ now (parameters .exit) ≡ parametersLeft (now (feed .entry)) (now (text .entry)) (now (components .entry)) (now (properties .entry)) (now (parameters .entry)) ⌝ }
+    ensures { λ n. ⌜ Lays 0 (listing (now (feed .entry)) (lent (now (text .entry)) (now (components .entry)) (now (properties .entry)) (now (parameters .entry))))
+        (now (out .entry)) (now (out .exit)) n ⌝ }
+    ensures { λ _. ⌜ lent (now (text .exit)) (now (components .exit)) (now (properties .exit)) (now (parameters .exit))
+        ≡ leftListed (now (feed .entry)) (lent (now (text .entry)) (now (components .entry)) (now (properties .entry)) (now (parameters .entry))) ⌝ }
 {
     if LONGEST < feed.len() {
         let r = Reading {
@@ -229,14 +239,14 @@ pub fn list(
     lay_listing(r, text, components, properties, parameters, out)
 }
 
-// Lists a feed in the lister's own rooms: rows for 128 components, 512 properties and 512 parameters.
+// Lists a feed in the lister's own rooms.
 pub fn list_feed(feed: &[u8], out: &mut [u8]) -> usize
-    ensures { λ n. ⌜ (n ≡ counted (length (listingOf (now (feed .entry))))) × (now (out .exit) ≡ laid (listingOf (now (feed .entry))) (now (out .entry))) ⌝ }
+    ensures { λ n. ⌜ Lays 0 (listingOf (now (feed .entry))) (now (out .entry)) (now (out .exit)) n ⌝ }
 {
-    let mut text = [0u8; 16384];
-    let mut components = [0u32; 512];
-    let mut properties = [0u32; 2560];
-    let mut parameters = [0u32; 3072];
+    let mut text = [0u8; LONGEST];
+    let mut components = [0u32; COMPONENTS];
+    let mut properties = [0u32; PROPERTIES];
+    let mut parameters = [0u32; PARAMETERS];
     list(
         feed,
         &mut text,

@@ -35,17 +35,58 @@ fn repeat(words: &[u8], times: usize, out: &mut [u8], at: usize) -> usize {
 }
 
 // A feed of so many components inside each other, and how many bytes it has.
-pub fn nest(depth: usize, out: &mut [u8]) -> usize {
+fn nest(depth: usize, out: &mut [u8]) -> usize {
     let inner = repeat(b"BEGIN:A\n", depth, out, 0);
     repeat(b"END:A\n", depth, out, inner)
 }
 
+// Reads so many components inside each other, into rows for one more than is read.
+pub fn read_nested(depth: usize) {
+    let mut feed = [0u8; 1024];
+    let n = nest(depth, &mut feed);
+    let mut text = [0u8; 1024];
+    let mut components = [0u32; 4 * (octets::DEEPEST + 1)];
+    let mut properties = [0u32; 0];
+    let mut parameters = [0u32; 0];
+    let r = reading::read_components(
+        octets::view(&feed, 0, n),
+        &mut text,
+        &mut components,
+        &mut properties,
+        &mut parameters,
+    );
+    say_reading(r);
+}
+
 // A feed of so many bytes: a component with one property, whose value is what stood in the buffer.
-pub fn stretch(size: usize, out: &mut [u8]) {
+fn stretch(size: usize, out: &mut [u8]) {
     octets::put(b"BEGIN:A\nK:", out);
     let end = b"\nEND:A\n";
     if size < end.len() {
         return;
     }
     octets::lay(end, out, size - end.len());
+}
+
+// One byte more than is read.
+pub const OVER: usize = octets::LONGEST + 1;
+
+fn read_front(feed: &[u8], text: &mut [u8]) {
+    let mut components = [0u32; 4];
+    let mut properties = [0u32; 5];
+    let mut parameters = [0u32; 0];
+    let r = reading::read_components(
+        feed,
+        text,
+        &mut components,
+        &mut properties,
+        &mut parameters,
+    );
+    say_reading(r);
+}
+
+// Reads a feed of so many bytes. An array of this size is lent as a slice only by way of a function that takes the array.
+pub fn read_long(size: usize, feed: &mut [u8; OVER], text: &mut [u8; OVER]) {
+    stretch(size, feed);
+    read_front(octets::view(feed, 0, size), text);
 }

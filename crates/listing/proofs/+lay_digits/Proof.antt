@@ -36,10 +36,26 @@ calls t = (digit-of-reads.Asked, digit-of-reads.Learnt, lay-reads.Asked, lay-rea
 abbrev Asks : (lts.Claims → In 1 kinds.ps → Out 1 kinds.ps kinds.r → Type 0) → Type 0
 Asks N = (t : ℕ) → N (calls t) (given t) reads.Post
 
+abbrev Place : (lts.Claims → In 1 kinds.ps → Out 1 kinds.ps kinds.r → Type 0) → ℕ → Type 0
+Place R t = R (calls t) (given t) reads.Post
+
+-- what the proofs look back to
+abbrev after-digit-of : (t : ℕ) → Place lts.After-slice-known2 t → Place lts.After-digit-of t
+after-digit-of t c = c .before .before .before .before .before
+
+abbrev in-else1 : (t : ℕ) → Place lts.After-slice-known2 t → Place lts.Else1 t
+in-else1 t c = after-digit-of t c .before .before
+
+abbrev after-digit-of2 : (t : ℕ) → Place lts.After-slice-known4 t → Place lts.After-digit-of2 t
+after-digit-of2 t c = c .before .before .before .before .before
+
+abbrev in-else2 : (t : ℕ) → Place lts.After-slice-known4 t → Place lts.Else2 t
+in-else2 t c = after-digit-of2 t c .before .before .before .before .before
+
 returns : Asks lts.Need-returns
 returns t c =
     let a = c .before .before .args in
-    from-as (a .at) (a .out .now) (no-digits (a .places) (a .n) (c .if1 .taken)) (stays (a .at) (a .out .now) (omega arith))
+    from-as (no-digits (a .places) (a .n) (c .if1 .taken)) (stays (a .at) (a .out .now) (omega arith))
 
 digit-of-requires : Asks lts.Need-digit-of-requires
 digit-of-requires t c κs = search needs
@@ -55,8 +71,9 @@ same-length t c = search needs
 
 returns-2 : Asks lts.Need-returns-2
 returns-2 t c =
-    let a = c .before .before .before .before .before .before .before .before .before .args in
-    from-as (a .at) (a .out .now) (ap (λ (k : ℕ). k ∷ []) (c .before .before .before .before .before .digit-of .ensures) ∙ one-digit (a .places) (a .n) (c .before .before .before .before .before .before .before .if1 .left) (c .before .before .before .before .before .before .if2 .taken)) (c .before .before .lay .ensures)
+    let a = in-else1 t c .before .before .args in
+    from-as (ap (λ (k : ℕ). k ∷ []) (after-digit-of t c .digit-of .ensures) ∙ one-digit (a .places) (a .n) (in-else1 t c .if1 .left) (after-digit-of t c .before .if2 .taken))
+    (c .before .before .lay .ensures)
 
 sub-lay-digits : Asks lts.Need-sub-lay-digits
 sub-lay-digits t c = pos-of-ne-zero (c .before .if1 .left)
@@ -78,10 +95,11 @@ same-length-2 t c = search needs
 
 returns-3 : Asks lts.Need-returns-3
 returns-3 t c =
-    let a = c .before .before .before .before .before .before .before .before .before .before .before .before .before .args in
+    let a = in-else2 t c .before .before .before .args in
     let w = start (a .at) (a .out .now) (digits (a .places) (a .n)) in
-    let x = more w (omega arith) (digits (a .places - 1) (a .n / 10)) (digit (a .n) ∷ []) (more-digits (a .places) (a .n) (c .before .before .before .before .before .before .before .before .before .before .before .if1 .left) (c .before .before .before .before .before .before .before .before .before .before .if2 .left)) (c .before .before .before .before .before .before .before .before .lay-digits .ensures) in
-    end x (from-as _ _ (ap (λ (k : ℕ). k ∷ []) (c .before .before .before .before .before .digit-of2 .ensures)) (c .before .before .lay2 .ensures))
+    let x = more w (omega arith) (digits (a .places - 1) (a .n / 10)) (digit (a .n) ∷ [])
+    (more-digits (a .places) (a .n) (in-else2 t c .before .if1 .left) (in-else2 t c .if2 .left)) (after-digit-of2 t c .before .before .before .lay-digits .ensures) in
+    end x (from-as (ap (λ (k : ℕ). k ∷ []) (after-digit-of2 t c .digit-of2 .ensures)) (c .before .before .lay2 .ensures))
 
 pub +lay-digits-spec : {M : Type 1} → statement M
 +lay-digits-spec = close μ λ t. lts.spec (calls t) (given t)

@@ -12,6 +12,16 @@ use borrow.Author.Needs.{needs}
 use Rattle.listing.proofs.lay_component.Statement.{statement}
 use Rattle.listing.proofs.lay_component.Tie as tie
 
+-- what the proofs look back to
+abbrev after-lay-number : tie.After-slice-known4 → tie.After-lay-number
+after-lay-number c = c .before .before .before .before .before .before
+
+abbrev after-lay-parent : tie.After-slice-known4 → tie.After-lay-parent
+after-lay-parent c = after-lay-number c .before .before .before .before .before
+
+abbrev at-start : tie.After-slice-known4 → tie.Start
+at-start c = after-lay-parent c .before .before .before .before .before .before .before
+
 cast-view : tie.Need-cast-view
 cast-view c = search needs
 
@@ -38,15 +48,15 @@ same-length c = search needs
 
 returns : tie.Need-returns
 returns c =
-    let a = c .before .before .before .before .before .before .before .before .before .before .before .before .before .before .before .before .before .before .args in
+    let a = at-start c .args in
     let row = a .row in
     let text = a .text .now in
     let name = viewed text (row .«name_start») (row .«name_len») in
-    let v = c .before .before .before .before .before .before .before .before .before .before .before .before .before .view .ensures in
+    let v = after-lay-parent c .before .before .view .ensures in
     let w0 = start (a .at) (a .out .now) (componentLine text row) in
-    let w1 = more w0 (omega arith) (parentField (row .parent)) (field (decimal (row .depth)) space ++ field name lf) refl (c .before .before .before .before .before .before .before .before .before .before .before .lay-parent .ensures) in
-    let w2 = more w1 (omega arith) (field (decimal (row .depth)) space) (field name lf) refl (c .before .before .before .before .before .before .lay-number .ensures) in
-    end w2 (from-as _ _ (ap (λ (k : List ℕ). field k lf) v) (c .before .before .lay-field .ensures))
+    let w1 = more w0 (omega arith) (parentField (row .parent)) (field (decimal (row .depth)) space ++ field name lf) refl (after-lay-parent c .lay-parent .ensures) in
+    let w2 = more w1 (omega arith) (field (decimal (row .depth)) space) (field name lf) refl (after-lay-number c .lay-number .ensures) in
+    end w2 (from-as (ap (λ (k : List ℕ). field k lf) v) (c .before .before .lay-field .ensures))
 
 pub lay-component-spec : {M : Type 1} → statement M
 lay-component-spec =

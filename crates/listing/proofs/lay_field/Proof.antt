@@ -8,6 +8,13 @@ use borrow.Author.Needs.{needs}
 use Rattle.listing.proofs.lay_field.Statement.{statement}
 use Rattle.listing.proofs.lay_field.Tie as tie
 
+-- what the proofs look back to
+abbrev after-lay : tie.After-slice-known3 → tie.After-lay
+after-lay c = c .before .before .before .before .before .before .before
+
+abbrev at-start : tie.After-slice-known3 → tie.Start
+at-start c = after-lay c .before .before .before .before
+
 lay-requires : tie.Need-lay-requires
 lay-requires c κs = search needs
 
@@ -22,9 +29,9 @@ same-length c = search needs
 
 returns : tie.Need-returns
 returns c =
-    let a = c .before .before .before .before .before .before .before .before .before .before .before .args in
+    let a = at-start c .args in
     let w = start (a .at) (a .out .now) (field (a .bytes .now) (a .end)) in
-    end (more w (omega arith) (a .bytes .now) (a .end ∷ []) refl (c .before .before .before .before .before .before .before .lay .ensures)) (c .before .before .lay2 .ensures)
+    end (more w (omega arith) (a .bytes .now) (a .end ∷ []) refl (after-lay c .lay .ensures)) (c .before .before .lay2 .ensures)
 
 pub lay-field-spec : {M : Type 1} → statement M
 lay-field-spec =

@@ -4,6 +4,16 @@ use borrow.Author.Needs.{needs}
 use Rattle.listing.proofs.lay_heading.Statement.{statement}
 use Rattle.listing.proofs.lay_heading.Tie as tie
 
+-- what the proofs look back to
+abbrev after-enum-told : tie.After-slice-known2 → tie.After-enum-told
+after-enum-told c = c .before .before .before .before .before
+
+abbrev after-enum-told2 : tie.After-slice-known3 → tie.After-enum-told2
+after-enum-told2 c = c .before .before .before .before .before
+
+abbrev after-enum-told3 : tie.After-slice-known4 → tie.After-enum-told3
+after-enum-told3 c = c .before .before .before .before .before
+
 enum-told : tie.Need-enum-told
 enum-told c = search needs
 
@@ -35,19 +45,19 @@ same-length : tie.Need-same-length
 same-length c = search needs
 
 returns : tie.Need-returns
-returns c = rw (c .before .before .before .before .before .enum-told .given .1) (c .before .before .lay-field .ensures)
+returns c = rw (after-enum-told c .enum-told .given .1) (c .before .before .lay-field .ensures)
 
 same-length-2 : tie.Need-same-length-2
 same-length-2 c = search needs
 
 returns-2 : tie.Need-returns-2
-returns-2 c = rw (c .before .before .before .before .before .enum-told2 .given .1) (c .before .before .lay-field2 .ensures)
+returns-2 c = rw (after-enum-told2 c .enum-told2 .given .1) (c .before .before .lay-field2 .ensures)
 
 same-length-3 : tie.Need-same-length-3
 same-length-3 c = search needs
 
 returns-3 : tie.Need-returns-3
-returns-3 c = rw (c .before .before .before .before .before .enum-told3 .given .1) (c .before .before .lay-field3 .ensures)
+returns-3 c = rw (after-enum-told3 c .enum-told3 .given .1) (c .before .before .lay-field3 .ensures)
 
 pub lay-heading-spec : {M : Type 1} → statement M
 lay-heading-spec =

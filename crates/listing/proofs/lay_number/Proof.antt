@@ -8,6 +8,10 @@ use borrow.Author.Needs.{needs}
 use Rattle.listing.proofs.lay_number.Statement.{statement}
 use Rattle.listing.proofs.lay_number.Tie as tie
 
+-- what the proofs look back to
+abbrev after-lay-digits : tie.After-slice-known3 → tie.After-lay-digits
+after-lay-digits c = c .before .before .before .before .before .before .before
+
 lay-digits-requires : tie.Need-lay-digits-requires
 lay-digits-requires c κs = search needs
 
@@ -22,9 +26,9 @@ same-length c = search needs
 
 returns : tie.Need-returns
 returns c =
-    let a = c .before .before .before .before .before .before .before .before .before .before .args in
+    let a = after-lay-digits c .before .before .before .args in
     let w = start (a .at) (a .out .now) (field (decimal (a .n)) (a .end)) in
-    end (more w (omega arith) (decimal (a .n)) (a .end ∷ []) refl (c .before .before .before .before .before .before .before .lay-digits .ensures)) (c .before .before .lay .ensures)
+    end (more w (omega arith) (decimal (a .n)) (a .end ∷ []) refl (after-lay-digits c .lay-digits .ensures)) (c .before .before .lay .ensures)
 
 pub lay-number-spec : {M : Type 1} → statement M
 lay-number-spec =

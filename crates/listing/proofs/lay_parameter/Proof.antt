@@ -13,6 +13,22 @@ use borrow.Author.Needs.{needs}
 use Rattle.listing.proofs.lay_parameter.Statement.{statement}
 use Rattle.listing.proofs.lay_parameter.Tie as tie
 
+-- what the proofs look back to
+abbrev after-view : tie.After-lay-number → tie.After-view
+after-view c = c .before .before .before .before .before .before
+
+abbrev at-start : tie.After-lay-number → tie.Start
+at-start c = after-view c .before .before .before .before .before
+
+abbrev number-of-absent : tie.After-slice-known3 → tie.After-lay-number
+number-of-absent c = c .before .before .before .before .before .before .before .before
+
+abbrev after-lay-field2 : tie.After-slice-known5 → tie.After-lay-field2
+after-lay-field2 c = c .before .before .before .before .before .before
+
+abbrev number-of-present : tie.After-slice-known5 → tie.After-lay-number
+number-of-present c = after-lay-field2 c .before .before .before .before .before .before
+
 cast-view : tie.Need-cast-view
 cast-view c = search needs
 
@@ -45,14 +61,14 @@ same-length c = search needs
 
 returns : tie.Need-returns
 returns c =
-    let s = c .before .before .before .before .before .before .before .before .before .before .before .before .before .before .before .before .before .before .before in
+    let s = at-start (number-of-absent c) in
     let a = s .args in
     let row = a .row in
     let text = a .text .now in
     let key = viewed text (row .«key_start») (row .«key_len») in
     let w0 = start (a .at) (a .out .now) (parameterLine text row) in
-    let w1 = more w0 (omega arith) (field (decimal (row .property)) space) (field key lf) (absent text row (c .before .before .before .before .if1 .taken)) (c .before .before .before .before .before .before .before .before .lay-number .ensures) in
-    end w1 (from-as _ _ (ap (λ (k : List ℕ). field k lf) (c .before .before .before .before .before .before .before .before .before .before .before .before .before .before .view .ensures)) (c .before .before .lay-field .ensures))
+    let w1 = more w0 (omega arith) (field (decimal (row .property)) space) (field key lf) (absent text row (c .before .before .before .before .if1 .taken)) (number-of-absent c .lay-number .ensures) in
+    end w1 (from-as (ap (λ (k : List ℕ). field k lf) (after-view (number-of-absent c) .view .ensures)) (c .before .before .lay-field .ensures))
 
 lay-field-requires-2 : tie.Need-lay-field-requires-2
 lay-field-requires-2 c κs = search needs
@@ -65,16 +81,18 @@ same-length-2 c = search needs
 
 returns-2 : tie.Need-returns-2
 returns-2 c =
-    let s = c .before .before .before .before .before .before .before .before .before .before .before .before .before .before .before .before .before .before .before .before .before .before .before in
+    let s = at-start (number-of-present c) in
     let a = s .args in
     let row = a .row in
     let text = a .text .now in
     let key = viewed text (row .«key_start») (row .«key_len») in
     let value = viewed text (row .«value_start») (row .«value_len») in
     let w0 = start (a .at) (a .out .now) (parameterLine text row) in
-    let w1 = more w0 (omega arith) (field (decimal (row .property)) space) (field key equals ++ field value lf) (present text row (c .before .before .before .before .before .before .before .before .if1 .left)) (c .before .before .before .before .before .before .before .before .before .before .before .before .lay-number .ensures) in
-    let w2 = more w1 (omega arith) (field key equals) (field value lf) refl (from-as _ _ (ap (λ (k : List ℕ). field k equals) (c .before .before .before .before .before .before .before .before .before .before .before .before .before .before .before .before .before .before .view .ensures)) (c .before .before .before .before .before .before .lay-field2 .ensures)) in
-    end w2 (from-as _ _ (ap (λ (k : List ℕ). field k lf) (c .before .before .before .before .before .before .before .before .before .before .before .before .before .before .before .view2 .ensures)) (c .before .before .lay-field3 .ensures))
+    let w1 = more w0 (omega arith) (field (decimal (row .property)) space) (field key equals ++ field value lf)
+    (present text row (after-lay-field2 c .before .before .if1 .left)) (number-of-present c .lay-number .ensures) in
+    let w2 = more w1 (omega arith) (field key equals) (field value lf) refl
+    (from-as (ap (λ (k : List ℕ). field k equals) (after-view (number-of-present c) .view .ensures)) (after-lay-field2 c .lay-field2 .ensures)) in
+    end w2 (from-as (ap (λ (k : List ℕ). field k lf) (number-of-present c .before .before .before .view2 .ensures)) (c .before .before .lay-field3 .ensures))
 
 pub lay-parameter-spec : {M : Type 1} → statement M
 lay-parameter-spec =

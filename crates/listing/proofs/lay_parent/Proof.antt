@@ -5,6 +5,13 @@ use borrow.Author.Needs.{needs}
 use Rattle.listing.proofs.lay_parent.Statement.{statement}
 use Rattle.listing.proofs.lay_parent.Tie as tie
 
+-- what the proofs look back to
+abbrev in-then1 : tie.After-slice-known2 → tie.Then1
+in-then1 c = c .before .before .before .before .before
+
+abbrev at-start : tie.After-slice-known3 → tie.Start
+at-start c = c .before .before .before .before .before .before
+
 slice-aggregate-lay-field : tie.Need-slice-aggregate-lay-field
 slice-aggregate-lay-field c = search needs
 
@@ -16,8 +23,8 @@ same-length c = search needs
 
 returns : tie.Need-returns
 returns c =
-    let a = c .before .before .before .before .before .before .before .args in
-    from-as (a .at) (a .out .now) (no-parent (a .parent) (c .before .before .before .before .before .if1 .taken)) (c .before .before .lay-field .ensures)
+    let a = in-then1 c .before .before .args in
+    from-as (no-parent (a .parent) (in-then1 c .if1 .taken)) (c .before .before .lay-field .ensures)
 
 lay-number-requires : tie.Need-lay-number-requires
 lay-number-requires c κs = search needs
@@ -27,8 +34,8 @@ same-length-2 c = search needs
 
 returns-2 : tie.Need-returns-2
 returns-2 c =
-    let a = c .before .before .before .before .before .before .args in
-    from-as (a .at) (a .out .now) (a-parent (a .parent) (c .before .before .before .before .if1 .left)) (c .before .before .lay-number .ensures)
+    let a = at-start c .args in
+    from-as (a-parent (a .parent) (c .before .before .before .before .if1 .left)) (c .before .before .lay-number .ensures)
 
 pub lay-parent-spec : {M : Type 1} → statement M
 lay-parent-spec =

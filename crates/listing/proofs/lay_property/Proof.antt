@@ -12,6 +12,19 @@ use borrow.Author.Needs.{needs}
 use Rattle.listing.proofs.lay_property.Statement.{statement}
 use Rattle.listing.proofs.lay_property.Tie as tie
 
+-- what the proofs look back to
+abbrev after-lay-field : tie.After-slice-known4 → tie.After-lay-field
+after-lay-field c = c .before .before .before .before .before .before
+
+abbrev after-lay-number : tie.After-slice-known4 → tie.After-lay-number
+after-lay-number c = after-lay-field c .before .before .before .before
+
+abbrev after-view : tie.After-slice-known4 → tie.After-view
+after-view c = after-lay-number c .before .before .before .before .before .before
+
+abbrev at-start : tie.After-slice-known4 → tie.Start
+at-start c = after-view c .before .before .before .before .before
+
 cast-view : tie.Need-cast-view
 cast-view c = search needs
 
@@ -47,16 +60,16 @@ same-length c = search needs
 
 returns : tie.Need-returns
 returns c =
-    let s = c .before .before .before .before .before .before .before .before .before .before .before .before .before .before .before .before .before .before .before .before .before in
+    let s = at-start c in
     let a = s .args in
     let row = a .row in
     let text = a .text .now in
     let key = viewed text (row .«key_start») (row .«key_len») in
     let value = viewed text (row .«value_start») (row .«value_len») in
     let w0 = start (a .at) (a .out .now) (propertyLine text row) in
-    let w1 = more w0 (omega arith) (field (decimal (row .owner)) space) (field key space ++ field value lf) refl (c .before .before .before .before .before .before .before .before .before .before .lay-number .ensures) in
-    let w2 = more w1 (omega arith) (field key space) (field value lf) refl (from-as _ _ (ap (λ (k : List ℕ). field k space) (c .before .before .before .before .before .before .before .before .before .before .before .before .before .before .before .before .view .ensures)) (c .before .before .before .before .before .before .lay-field .ensures)) in
-    end w2 (from-as _ _ (ap (λ (k : List ℕ). field k lf) (c .before .before .before .before .before .before .before .before .before .before .before .before .before .view2 .ensures)) (c .before .before .lay-field2 .ensures))
+    let w1 = more w0 (omega arith) (field (decimal (row .owner)) space) (field key space ++ field value lf) refl (after-lay-number c .lay-number .ensures) in
+    let w2 = more w1 (omega arith) (field key space) (field value lf) refl (from-as (ap (λ (k : List ℕ). field k space) (after-view c .view .ensures)) (after-lay-field c .lay-field .ensures)) in
+    end w2 (from-as (ap (λ (k : List ℕ). field k lf) (after-lay-number c .before .before .before .view2 .ensures)) (c .before .before .lay-field2 .ensures))
 
 pub lay-property-spec : {M : Type 1} → statement M
 lay-property-spec =

@@ -17,6 +17,16 @@ Inv-loop which text table count out₀ at to₀ row₀ out to row =
 abbrev μ-loop : tie.MeasureT-loop
 μ-loop which text table count out₀ at to₀ row₀ out to row = count - row
 
+abbrev At : (tie.InvT-loop → tie.MeasureT-loop → Type 0) → Type 0
+At place = place Inv-loop μ-loop
+
+-- what the proofs look back to
+abbrev start-at-end : At tie.After-loop → At tie.Start
+start-at-end c = c .before .before .before .before .before
+
+abbrev start-in-turn : At tie.After-lay-row-arg → At tie.Start
+start-in-turn c = c .before .before .before .before .before .before
+
 loop-holds : tie.Need-loop-holds Inv-loop μ-loop
 loop-holds c =
     let a = c .before .before .before .args in
@@ -24,7 +34,7 @@ loop-holds c =
     (omega arith, (omega arith, rw e (start (a .at) (a .out .now) (linesFrom (rowLine (a .which) (a .text .now) (a .table .now)) 0 (a .count)))))
 
 lay-row-requires : tie.Need-lay-row-requires Inv-loop μ-loop
-lay-row-requires c κs = lt-of-lt-of-le (c .before .loop-test .taken) (c .before .before .before .before .before .before .pre)
+lay-row-requires c κs = lt-of-lt-of-le (c .before .loop-test .taken) (start-in-turn c .pre)
 
 add-row : tie.Need-add-row Inv-loop μ-loop
 add-row c = omega arith
@@ -34,17 +44,24 @@ loop-less c = omega arith
 
 loop-again : tie.Need-loop-again Inv-loop μ-loop
 loop-again c =
-    let a = c .before .before .before .before .before .before .before .before .before .args in
+    let y = c .before .before in
+    let a = start-in-turn (y .before) .args in
     let line = rowLine (a .which) (a .text .now) (a .table .now) in
-    let l = c .before .before .before .before .before .loop in
-    (omega arith, (omega (arith, c .before .before .lay-row .ensures .0), more (l .inv .1 .1) (omega arith) (line (l .row)) (linesFrom line (l .row + 1) (a .count - (l .row + 1))) (next-line line (l .row) (a .count) (c .before .before .before .before .loop-test .taken)) (c .before .before .lay-row .ensures)))
+    let l = y .before .before .before .loop in (
+      omega arith,
+      (
+        omega (arith, y .lay-row .ensures .count),
+        more (l .inv .1 .1) (omega arith) (line (l .row)) (linesFrom line (l .row + 1) (a .count - (l .row + 1)))
+            (next-line line (l .row) (a .count) (y .before .before .loop-test .taken)) (y .lay-row .ensures),
+      ),
+    )
 
 same-length : tie.Need-same-length Inv-loop μ-loop
 same-length c = c .before .loop .inv .1 .1 .same
 
 returns : tie.Need-returns Inv-loop μ-loop
 returns c =
-    let a = c .before .before .before .before .before .args in
+    let a = start-at-end c .args in
     let line = rowLine (a .which) (a .text .now) (a .table .now) in
     let l = c .before .loop in
     end (l .inv .1 .1) (rw (no-lines line (l .row) (a .count) (c .loop-test .left)) (stays (l .to) (l .out) (l .inv .1 .0)))

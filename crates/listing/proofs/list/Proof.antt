@@ -1,13 +1,28 @@
 -- `listing::list`: too long a feed, or what its reading left.
-use lib.ListN.{length}
-use borrow.Author.Tests.{le-leb, lt-leb}
-use Rattle.octets.proofs.Writing.{laid-as}
+use Prim.Native.Nat.{ℕ}
+use mathlib.Core.List.{List}
+use Rattle.octets.proofs.Writing.{from-as}
+use Rattle.tables.specs.Lent.{Lent, lent}
 use Rattle.listing.proofs.Laws.{too-long, read}
 use Rattle.listing.proofs.Rooms.{has-rows}
-use Rattle.listing.specs.Listing.{longestListed}
 use borrow.Author.Needs.{needs}
 use Rattle.listing.proofs.list.Statement.{statement}
 use Rattle.listing.proofs.list.Tie as tie
+
+-- what the places of the code see: the feed, what is lent with it, and the call that reads the one into the other
+abbrev feed-of : tie.After-slice-known5 → List ℕ
+feed-of c = c .before .before .before .before .before .before .args .feed .now
+
+abbrev lent-of : tie.After-slice-known5 → Lent
+lent-of c =
+    let a = c .before .before .before .before .before .before .args in
+    lent (a .text .now) (a .components .now) (a .properties .now) (a .parameters .now)
+
+abbrev else-of : tie.After-read-components → tie.Else1
+else-of c = c .before .before .before .before .before
+
+abbrev read-of : tie.After-lay-listing-arg5 → tie.After-read-components
+read-of c = c .before .before .before .before .before .before .before .before .before .before .before .before .before
 
 lay-refusal-requires : tie.Need-lay-refusal-requires
 lay-refusal-requires c κs = search needs
@@ -17,20 +32,17 @@ same-length c = search needs
 
 returns : tie.Need-returns
 returns c =
-    let a = c .before .before .before .before .before .before .before .before .before .before .before .args in
-    let feed = a .feed .now in
-    let w = laid-as (a .out .now) (too-long feed (a .text .now) (a .components .now) (a .properties .now) (a .parameters .now) (c .before .before .before .before .if1 .taken)) (c .before .before .lay-refusal .ensures) in
-    let e = lt-leb (length feed) longestListed (c .before .before .before .before .if1 .taken) in
-    (w .0, (w .1, (rw e, (rw e, (rw e, rw e)))))
+    let e = c .before .before .before .before in
+    let t = too-long (feed-of (e .before)) (lent-of (e .before)) (e .if1 .taken) in
+    (from-as (t .0) (c .before .before .lay-refusal .ensures), t .1)
 
 read-components-requires : tie.Need-read-components-requires
 read-components-requires c κs = search needs
 
 lay-listing-requires : tie.Need-lay-listing-requires
 lay-listing-requires c κs =
-    let a = c .before .before .before .before .before .before .before .before .before .before .before .before .before .before .before .before .before .before .before .before .before .before .before .before .before .args in
-    let r = c .before .before .before .before .before .before .before .before .before .before .before .before .before .read-components .ensures in
-    has-rows (a .feed .now) (a .text .now) (a .components .now) (a .properties .now) (a .parameters .now) (r .0) (r .1 .1 .0) (r .1 .1 .1 .0) (r .1 .1 .1 .1)
+    let r = read-of c in
+    has-rows (feed-of (else-of r .before)) (lent-of (else-of r .before)) (r .read-components .ensures .0) (r .read-components .ensures .1)
 
 same-length-2 : tie.Need-same-length-2
 same-length-2 c = search needs
@@ -49,14 +61,10 @@ same-length-6 c = search needs
 
 returns-2 : tie.Need-returns-2
 returns-2 c =
-    let a = c .before .before .before .before .before .before .before .before .before .before .before .before .before .before .before .before .before .before .before .before .before .before .before .before .before .before .before .before .args in
-    let feed = a .feed .now in
-    let r = c .before .before .before .before .before .before .before .before .before .before .before .before .before .before .before .before .read-components .ensures in
-    let short = c .before .before .before .before .before .before .before .before .before .before .before .before .before .before .before .before .before .before .before .before .before .if1 .left in
-    let l = read feed (a .text .now) (a .components .now) (a .properties .now) (a .parameters .now) short (r .0) (r .1 .0) (r .1 .1 .0) (r .1 .1 .1 .0) (r .1 .1 .1 .1) in
-    let w = laid-as (a .out .now) l (c .before .before .lay-listing .ensures) in
-    let e = le-leb (length feed) longestListed short in
-    (w .0, (w .1, (rw e (r .1 .0), (rw e (r .1 .1 .0), (rw e (r .1 .1 .1 .0), rw e (r .1 .1 .1 .1))))))
+    let r = read-of (c .before .before .before) in
+    let e = else-of r in
+    let t = read (feed-of (e .before)) (lent-of (e .before)) (e .if1 .left) (r .read-components .ensures .0) (r .read-components .ensures .1) in
+    (from-as (t .0) (c .before .before .lay-listing .ensures), t .1)
 
 pub list-spec : {M : Type 1} → statement M
 list-spec =

@@ -4,6 +4,10 @@ use borrow.Author.Needs.{needs}
 use Rattle.listing.proofs.list_feed.Statement.{statement}
 use Rattle.listing.proofs.list_feed.Tie as tie
 
+-- what the proofs look back to
+abbrev after-list : tie.After-slice-known2 → tie.After-list
+after-list c = c .before .before .before .before .before .before
+
 slice-aggregate-list : tie.Need-slice-aggregate-list
 slice-aggregate-list c = search needs
 
@@ -24,7 +28,7 @@ same-length c = search needs
 
 returns : tie.Need-returns
 unfolding listingOf
-returns c = (c .before .before .before .before .before .before .list .ensures .0, c .before .before .before .before .before .before .list .ensures .1 .0)
+returns c = after-list c .list .ensures .0
 
 pub list-feed-spec : {M : Type 1} → statement M
 list-feed-spec =
