@@ -1,0 +1,4 @@
+pub mod Chains
+pub mod Passing
+pub mod Components
+pub mod Whole

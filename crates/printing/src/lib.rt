@@ -1,0 +1,142 @@
+// One line of a calendar, folded strictly and closed by CRLF, laid over the front of what is left of the output.
+ghost use mathlib.Core.Path.{_≡_};
+ghost use mathlib.Core.List.{_∷_, _++_};
+ghost use Rattle.octets.specs.Laid.{Lays};
+ghost use Rattle.tables.specs.Trees.{present, parameterOf};
+ghost use Rattle.tables.specs.Lent.{parametersIn};
+ghost use Rattle.printing.specs.Lines.{closedLine, valueText, parameterText, parametersText};
+ghost use Rattle.printing.specs.Pens.{Penned, behindRun, ownParameters, printedLine};
+use folding::Column;
+use tables::ParameterRow;
+use tables::PropertyRow;
+
+// Where a line that is laid piece by piece goes on: the octets that its physical line still takes, and the place in the buffer.
+pub struct Pen {
+    pub left: usize,
+    pub at: usize,
+}
+
+impl Pen {
+    // The front of a line, and of the buffer.
+    const START: Pen = Pen {
+        left: Column::FIRST,
+        at: 0,
+    };
+}
+
+// A property line as it was laid: its bytes, and the parameter row behind its own.
+pub struct Printed {
+    pub length: usize,
+    pub next: usize,
+}
+
+// The parameters of a property, laid: where the line goes on, and the row behind them.
+struct Listed {
+    pen: Pen,
+    next: usize,
+}
+
+// Lays a piece of a line, folded strictly, from the pen on.
+fn lay_piece(pen: Pen, piece: &[u8], out: &mut [u8]) -> Pen
+    ensures { λ r. ⌜ Penned pen (now (piece .entry)) (now (out .entry)) (now (out .exit)) r ⌝ }
+{
+    let from = octets::least(pen.at, out.len());
+    let column = Column { left: pen.left };
+    let folded = folding::fold_piece(column, piece, &mut out[from..]);
+    Pen {
+        left: folded.column.left,
+        at: octets::count_on(pen.at, folded.length),
+    }
+}
+
+// Lays a byte and the piece behind it.
+fn lay_after(pen: Pen, mark: u8, piece: &[u8], out: &mut [u8]) -> Pen
+    ensures { λ r. ⌜ Penned pen (mark ∷ now (piece .entry)) (now (out .entry)) (now (out .exit)) r ⌝ }
+{
+    let first = [mark];
+    let marked = lay_piece(pen, &first, out);
+    lay_piece(marked, piece, out)
+}
+
+// Lays a value that is present, in quotes where it wants them.
+fn lay_value(pen: Pen, value: &[u8], out: &mut [u8]) -> Pen
+    ensures { λ r. ⌜ Penned pen (valueText (present (now (value .entry)))) (now (out .entry)) (now (out .exit)) r ⌝ }
+{
+    if !quoting::wraps(value) {
+        return lay_after(pen, b'=', value, out);
+    }
+    let opened = lay_piece(pen, b"=\"", out);
+    let end = lay_piece(opened, value, out);
+    lay_piece(end, b"\"", out)
+}
+
+// Lays a parameter: an absent value leaves its key alone.
+fn lay_parameter(pen: Pen, text: &[u8], p: ParameterRow, out: &mut [u8]) -> Pen
+    ensures { λ r. ⌜ Penned pen (parameterText (parameterOf (now (text .entry)) p)) (now (out .entry)) (now (out .exit)) r ⌝ }
+{
+    let key = octets::view(text, p.key_start as usize, p.key_len as usize);
+    let named = lay_after(pen, b';', key, out);
+    if p.present == 0 {
+        return named;
+    }
+    let value = octets::view(text, p.value_start as usize, p.value_len as usize);
+    lay_value(named, value, out)
+}
+
+// Lays the parameters of a property, whose rows are the run that begins at `first`.
+fn lay_parameters(
+    pen: Pen,
+    text: &[u8],
+    parameters: &[u32],
+    number: usize,
+    first: usize,
+    out: &mut [u8],
+) -> Listed
+    ensures { λ r. ⌜ Penned pen (parametersText (ownParameters (now (text .entry)) number first (parametersIn (now (parameters .entry))))) (now (out .entry)) (now (out .exit)) (r .pen) ⌝ }
+    ensures { λ r. ⌜ r .next ≡ behindRun number first (parametersIn (now (parameters .entry))) ⌝ }
+{
+    let rows = tables::parameter_rows(parameters);
+    let mut pen = pen;
+    let mut next = first;
+    while next < rows {
+        let p = tables::parameter_at(parameters, next);
+        if p.property as usize != number {
+            return Listed { pen, next };
+        }
+        pen = lay_parameter(pen, text, p, out);
+        next += 1;
+    }
+    Listed { pen, next }
+}
+
+// Lays the line that opens or closes a component: BEGIN or END with its colon, and the name.
+pub fn print_mark(mark: &[u8], name: &[u8], out: &mut [u8]) -> usize
+    ensures { λ r. ⌜ Lays 0 (closedLine (now (mark .entry) ++ now (name .entry))) (now (out .entry)) (now (out .exit)) r ⌝ }
+{
+    let marked = lay_piece(Pen::START, mark, out);
+    let end = lay_piece(marked, name, out);
+    octets::lay(b"\r\n", out, end.at)
+}
+
+// Lays the line of a property row: `number` is its row, and `first` the first parameter row that may be its own.
+pub fn print_property(
+    text: &[u8],
+    p: PropertyRow,
+    number: usize,
+    parameters: &[u32],
+    first: usize,
+    out: &mut [u8],
+) -> Printed
+    ensures { λ r. ⌜ Lays 0 (printedLine (now (text .entry)) p number first (parametersIn (now (parameters .entry)))) (now (out .entry)) (now (out .exit)) (r .length) ⌝ }
+    ensures { λ r. ⌜ r .next ≡ behindRun number first (parametersIn (now (parameters .entry))) ⌝ }
+{
+    let key = octets::view(text, p.key_start as usize, p.key_len as usize);
+    let value = octets::view(text, p.value_start as usize, p.value_len as usize);
+    let named = lay_piece(Pen::START, key, out);
+    let listed = lay_parameters(named, text, parameters, number, first, out);
+    let end = lay_after(listed.pen, b':', value, out);
+    Printed {
+        length: octets::lay(b"\r\n", out, end.at),
+        next: listed.next,
+    }
+}

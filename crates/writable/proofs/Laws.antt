@@ -1,0 +1,186 @@
+-- Laws of the writing rule: what a value makes of its row, which keys fit, and the first row that is not fine, one row at a time. Assumes nothing.
+use mathlib.Core.Path.{_≡_, refl, sym, ap, _∙_}
+use mathlib.Core.Bool.{Bool, true, false, not, _&&_, _||_, and-true, and-false}
+use mathlib.Core.List.{List, [], _∷_}
+use Prim.Native.Nat.{ℕ, _+_, _/_, _≤_, _<_}
+use native.Mathlib.Nat.{add-zero, add-assoc}
+use native.Mathlib.Omega.{arith}
+use lib.ListN.{length, drop}
+use lib.Dec.{leb, ltb}
+use borrow.Author.Tests.{lt-ltb, le-ltb, not-true, not-false}
+use Rattle.octets.specs.Choice.{pick}
+use Rattle.octets.specs.Bytes.{cr, lf, quote, keyByte, other}
+use Rattle.octets.specs.Runs.{run, only}
+use Rattle.octets.specs.Keys.{reserved, keyOf}
+use Rattle.octets.specs.declared.Key.the-variants.{Reserved, Run}
+use Rattle.parameters.specs.Values.{isList}
+use Rattle.folding.specs.Answers.{ascii}
+use Rattle.folding.proofs.Answers.{both}
+use Rattle.tables.specs.Rows.{componentSize, propertySize, componentAt, propertyAt, rowsOf}
+use Rattle.tables.specs.Lent.{Lent, componentsIn, propertiesIn, parametersIn}
+use Rattle.tables.proofs.Laws.{length-rows, row-here, rows-end}
+use Rattle.writable.specs.WritingRule.{some, nameFits, keyFits, noBreak, clean, presentFits, verdict, componentVerdict, propertyVerdict, parameterVerdict, told, judgedFrom, judgedIn}
+use Rattle.writable.specs.declared.Verdict.{Verdict}
+use Rattle.writable.specs.declared.Judged.{Judged}
+
+-- ---- values
+
+module _ (value : List ℕ) where
+  pub fine-value : only clean value ≡ true → Verdict.Fine ≡ verdict (only noBreak value) (only ascii value)
+  fine-value e = go (only noBreak value) (only ascii value) (sym (both noBreak ascii value) ∙ e)
+    where
+      go : (a b : Bool) → a && b ≡ true → Verdict.Fine ≡ verdict a b
+      go true true e = refl
+      go true false e = cc
+      go false b e = cc
+
+  module _ {r n : Bool} (no-cr : r ≡ only (other cr) value) (no-lf : n ≡ only (other lf) value) where
+    unbroken : r && n ≡ only noBreak value
+    unbroken = cc (both (other cr) (other lf) value)
+
+    pub not-ascii : only clean value ≡ false → r && n ≡ true → Verdict.NotAscii ≡ verdict (only noBreak value) (only ascii value)
+    not-ascii e t =
+        let whole : only noBreak value ≡ true = sym unbroken ∙ t in
+        let off : only ascii value ≡ false = rw whole at (sym (both noBreak ascii value) ∙ e) in
+        rw (whole, off)
+
+    pub has-break : r && n ≡ false → Verdict.Unwritable ≡ verdict (only noBreak value) (only ascii value)
+    has-break t = rw (sym unbroken ∙ t)
+
+  pub empty-value : length value ≡ 0 → Verdict.Unwritable ≡ verdict (presentFits value) (only ascii value)
+  empty-value e = rw (le-ltb 0 (length value) (omega arith))
+
+  module _ {q : Bool} (is : q ≡ only (other quote) value || isList value) where
+    pub stray-quote : not q ≡ true → Verdict.Unwritable ≡ verdict (presentFits value) (only ascii value)
+    stray-quote t = rw (sym is ∙ not-true q t, and-false (only noBreak value), and-false (some value))
+
+    pub sound-quotes : (length value ≡ 0 → ⊥) → not q ≡ false → verdict (only noBreak value) (only ascii value) ≡ verdict (presentFits value) (only ascii value)
+    sound-quotes full t = rw (lt-ltb 0 (length value) (omega arith), sym is ∙ not-false q t, and-true (only noBreak value))
+
+-- ---- keys
+
+module _ (key : List ℕ) where
+  pub reserved-key : keyOf key ≡ Reserved → false ≡ keyFits key
+  reserved-key e = go (reserved key) e
+    where
+      go : (t : Bool) → pick t Reserved (Run (run keyByte key)) ≡ Reserved → false ≡ nameFits key && not t
+      go true e = sym (and-false (nameFits key))
+      go false e = cc
+
+  pub run-key : {n : ℕ} → keyOf key ≡ Run n → ltb 0 (length key) && leb (length key) n ≡ keyFits key
+  run-key {n} e = go (reserved key) e
+    where
+      go : (t : Bool) → pick t Reserved (Run (run keyByte key)) ≡ Run n
+          → ltb 0 (length key) && leb (length key) n ≡ nameFits key && not t
+      go true e = cc
+      go false e = let same : run keyByte key ≡ n = cc in rw (same, and-true)
+
+-- what stands behind a key of either kind
+module _ {r k : Bool} (is : r ≡ k) (a b : Bool) where
+  pub bad-key : not r ≡ true → Verdict.Unwritable ≡ verdict (k && a) b
+  bad-key t = rw (sym is ∙ not-true r t)
+
+  pub good-key : not r ≡ false → verdict a b ≡ verdict (k && a) b
+  good-key t = rw (sym is ∙ not-false r t)
+
+-- ---- rows of a table
+
+-- what one table tells, and only if it can be written what is told behind it
+abbrev orElse : Judged → Judged → Judged
+orElse Judged.Writable rest = rest
+orElse (Judged.Unwritable row) rest = Judged.Unwritable row
+orElse (Judged.NotAscii row) rest = Judged.NotAscii row
+
+refused : (t rest : Judged) → (t ≡ Judged.Writable → ⊥) → t ≡ orElse t rest
+refused Judged.Writable rest f = absurd (f refl)
+refused (Judged.Unwritable row) rest f = refl
+refused (Judged.NotAscii row) rest f = refl
+
+module _ {A : Type 0} (verdictOf : A → Verdict) where
+  pub then : (row : ℕ) (xs : List A) (rest : Judged) → judgedFrom verdictOf row xs rest ≡ orElse (judgedFrom verdictOf row xs Judged.Writable) rest
+  unfolding judgedFrom
+  then row [] rest = refl
+  then row (x ∷ xs) rest = go (verdictOf x) (judgedFrom verdictOf (row + 1) xs Judged.Writable) (then (row + 1) xs rest)
+    where
+      go : (v : Verdict) (b : Judged) {a : Judged} → a ≡ orElse b rest → told v row a ≡ orElse (told v row b) rest
+      go Verdict.Fine b e = e
+      go Verdict.Unwritable b e = refl
+      go Verdict.NotAscii b e = refl
+
+  module _ (size : ℕ) (at : List ℕ → ℕ → A) (table : List ℕ) (first : ℕ) where
+    -- what all rows of a table give, numbered from `first` on
+    abbrev pub tableJudged : Judged
+    tableJudged = judgedFrom verdictOf first (rowsOf size at table) Judged.Writable
+
+    -- the rows from i on give the same
+    abbrev pub Judging : ℕ → Type 0
+    Judging i = judgedFrom verdictOf (first + i) (drop i (rowsOf size at table)) Judged.Writable ≡ tableJudged
+
+    pub begin : Judging 0
+    begin = rw add-zero
+
+    pub end : {i : ℕ} → Judging i → length table / size ≤ i → Judged.Writable ≡ tableJudged
+    unfolding judgedFrom
+    end {i} so-far h = rw (rows-end size at table i h) at so-far
+
+    -- row i, which the table has, is found to be v
+    pub record Turn (i : ℕ) (v : Verdict) : Type 0 where
+      pub so-far : Judging i
+      pub inside : i < length table / size
+      pub is : v ≡ verdictOf (at table i)
+
+module _ {A : Type 0} {verdictOf : A → Verdict} {size : ℕ} {at : List ℕ → ℕ → A} {table : List ℕ} {first i : ℕ} {v : Verdict}
+    (t : Turn verdictOf size at table first i v) where
+  turned : told v (first + i) (judgedFrom verdictOf (first + (i + 1)) (drop (i + 1) (rowsOf size at table)) Judged.Writable)
+      ≡ tableJudged verdictOf size at table first
+  unfolding judgedFrom
+  turned = rw (row-here size at table i (t .inside), ← t .is, add-assoc) at (t .so-far)
+
+  pub on : v ≡ Verdict.Fine → Judging verdictOf size at table first (i + 1)
+  on e = rw e at turned
+
+  pub unwritable : v ≡ Verdict.Unwritable → Judged.Unwritable (first + i) ≡ tableJudged verdictOf size at table first
+  unwritable e = rw e at turned
+
+  pub off-ascii : v ≡ Verdict.NotAscii → Judged.NotAscii (first + i) ≡ tableJudged verdictOf size at table first
+  off-ascii e = rw e at turned
+
+-- ---- the three tables
+
+module _ (b : Lent) where
+  abbrev behindProperties : Judged
+  behindProperties =
+      judgedFrom (parameterVerdict (b .text)) (length (componentsIn (b .components)) + length (propertiesIn (b .properties))) (parametersIn (b .parameters)) Judged.Writable
+
+  abbrev behindComponents : Judged
+  behindComponents = judgedFrom (propertyVerdict (b .text)) (length (componentsIn (b .components))) (propertiesIn (b .properties)) behindProperties
+
+  module _ {c : Judged} (of-components : c ≡ judgedFrom (componentVerdict (b .text)) 0 (componentsIn (b .components)) Judged.Writable) where
+    by-components : judgedIn b ≡ orElse c behindComponents
+    unfolding judgedIn
+    by-components =
+        then (componentVerdict (b .text)) 0 (componentsIn (b .components)) behindComponents
+        ∙ ap (λ (t : Judged). orElse t behindComponents) (sym of-components)
+
+    pub in-components : (c ≡ Judged.Writable → ⊥) → c ≡ judgedIn b
+    in-components f = refused c behindComponents f ∙ sym by-components
+
+    module _ (fine : c ≡ Judged.Writable) {n : ℕ} (count : n ≡ length (b .components) / componentSize) {p : Judged}
+        (of-properties : p ≡ judgedFrom (propertyVerdict (b .text)) n (propertiesIn (b .properties)) Judged.Writable) where
+      by-properties : judgedIn b ≡ orElse p behindProperties
+      by-properties =
+          by-components
+          ∙ (ap (λ (t : Judged). orElse t behindComponents) fine
+          ∙ (then (propertyVerdict (b .text)) (length (componentsIn (b .components))) (propertiesIn (b .properties)) behindProperties
+          ∙ ap (λ (t : Judged). orElse t behindProperties) (sym of-counted)))
+        where
+          of-counted : p ≡ judgedFrom (propertyVerdict (b .text)) (length (componentsIn (b .components))) (propertiesIn (b .properties)) Judged.Writable
+          of-counted = rw (length-rows componentSize componentAt (b .components), ← count) of-properties
+
+      pub in-properties : (p ≡ Judged.Writable → ⊥) → p ≡ judgedIn b
+      in-properties f = refused p behindProperties f ∙ sym by-properties
+
+      pub in-parameters : p ≡ Judged.Writable → {m : ℕ} → m ≡ length (b .properties) / propertySize → {q : Judged}
+          → q ≡ judgedFrom (parameterVerdict (b .text)) (n + m) (parametersIn (b .parameters)) Judged.Writable → q ≡ judgedIn b
+      in-parameters sound {m} counted of-parameters =
+          rw (by-properties, sound, length-rows componentSize componentAt (b .components), length-rows propertySize propertyAt (b .properties), ← count, ← counted) of-parameters
