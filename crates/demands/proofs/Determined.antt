@@ -12,7 +12,8 @@ use Rattle.folding.specs.Repository.{repository}
 use Rattle.folding.specs.Answers.{foldAnswer, foldOut}
 use Rattle.quoting.specs.Answers.{quoteAnswer, quoteOut}
 use Rattle.reading.specs.declared.Reading.{Reading}
-use Rattle.demands.specs.Lent.{Lent, readInto, left}
+use Rattle.tables.specs.Lent.{Lent}
+use Rattle.reading.specs.Lent.{readInto, left}
 
 -- a contract that says of the result that it is `f` of the entry, and of what is lent that it is `g` of the entry at exit
 pub record Allowed {Entry Result Exit : Type 0} (f : Entry → Result) (g : Entry → Exit) (entry : Entry) (result : Result) (exit : Exit) : Type 0 where

@@ -6,6 +6,7 @@ pub mod Determined
 pub mod Chains
 pub mod RowsFit
 pub mod MeetsRule
+pub mod InOrder
 pub mod Outputs
 pub mod Folds
 pub mod Quotes

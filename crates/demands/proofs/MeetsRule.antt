@@ -1,24 +1,18 @@
 -- The rows of every reading that goes to the end meet the table rule. Assumes nothing.
 use mathlib.Core.Path.{_≡_, refl, ap, _∙_}
-use mathlib.Core.Bool.{Bool, true, false}
+use mathlib.Core.Bool.{Bool, true}
 use mathlib.Core.List.{List, [], _∷_, _++_, append-assoc, append-nil}
-use Prim.Native.Nat.{ℕ, zero, suc, _+_, _-_, _*_, _≤_, _<_, zero-le}
+use Prim.Native.Nat.{ℕ, _+_, _*_, _≤_, _<_, zero-le}
 use native.Mathlib.Nat.{le-trans}
 use native.Mathlib.Omega.{arith}
-use lib.ListN.{length, take, drop, length-append, length-take, length-drop}
+use lib.ListN.{length, take, drop, length-append, length-drop}
 use lib.Seq.{take-append-seam}
-use lib.Dec.{ltb}
-use borrow.Author.Tests.{ltb-true}
-use Rattle.octets.specs.Choice.{pick}
 use Rattle.octets.specs.Answers.{longest, deepest, done}
 use Rattle.unfolding.specs.Unfold.{unfolded}
 use Rattle.unfolding.proofs.Laws.{length-unfolded}
-use Rattle.lines.specs.Split.{contentLen, lineLen, linesAfter}
-use Rattle.lines.specs.Rule.{lineOf}
 use Rattle.lines.specs.declared.Line.{Line}
 use Rattle.lines.specs.declared.Line.the-variants.{Empty, Begin, BadBegin, End, Content, Bad}
 use Rattle.lines.specs.declared.Property.{Property}
-use Rattle.lines.proofs.Split.{content-within}
 use Rattle.lines.specs.Sound.{Sound, SoundProperty}
 use Rattle.lines.proofs.Sound.{sound}
 use Rattle.octets.specs.declared.Span.{Span}
@@ -32,11 +26,13 @@ use Rattle.tables.proofs.Laws.{Shape, length-flat, rows-exact, component-shape,
 use Rattle.tables.proofs.Rule.{on, ended, Meets, not-broken}
 use Rattle.nesting.specs.Rows.{entry, top, componentRow, propertyRow, parameterRows}
 use Rattle.nesting.specs.declared.Check.{Check}
-use Rattle.nesting.specs.Steps.{State, nothing, inside, checkOf, closed, after, Run, finished, onward, run, runOf}
+use Rattle.nesting.specs.Steps.{State, nothing, inside, checkOf, closed, after, finished, runOf}
+use Rattle.nesting.proofs.Lines.{deep, at-the-end}
 use Rattle.nesting.specs.declared.Entry.{Entry}
-use Rattle.nesting.specs.declared.Refusal.{Refusal}
 use Rattle.reading.specs.declared.Reading.{Reading}
-use Rattle.demands.specs.Lent.{Lent, readInto, left, toldOf, brokenIn}
+use Rattle.tables.specs.Lent.{Lent, brokenIn}
+use Rattle.reading.specs.Lent.{readInto, left}
+use Rattle.demands.specs.Lent.{toldOf}
 use Rattle.demands.specs.Readable.{Readable, ReadTo}
 use Rattle.demands.proofs.Readable.{done-readable}
 use Rattle.demands.proofs.Chains.{chain, Falling, Last, fewer, falling-last, first-below}
@@ -179,14 +175,6 @@ module _ {T at : ℕ} (s : State) {known : List Opened} (m : Meeting T at s know
             few = omega (arith, m .few);
           }
 
--- a BEGIN that may stand where it does is not too deep
-deep : (es : List Entry) → pick (ltb (length es) deepest) Check.Fine (Check.Bad Refusal.TooDeep) ≡ Check.Fine → length es < deepest
-deep es c = go (ltb (length es) deepest) refl c
-  where
-    go : (t : Bool) → ltb (length es) deepest ≡ t → pick t Check.Fine (Check.Bad Refusal.TooDeep) ≡ Check.Fine → length es < deepest
-    go true x c = ltb-true (length es) deepest x
-    go false x c = absurd (let z : _≡_ {A = ℕ} 0 1 = cc in omega arith)
-
 -- any line that may stand where it does
 step : {T at : ℕ} (s : State) → Met T at s → (text line : List ℕ) → at + length line ≤ T → at ≤ noParent
     → (l : Line) → Sound line l → checkOf text line l (s .opens) ≡ Check.Fine → Met T (at + length line) (after at line l s)
@@ -213,51 +201,36 @@ met {T} {at} {s} (known, m) some =
           (length (s .components) + length (s .properties)) 0 zero-le);
     }
 
-goes-on : (c : Check) (place : ℕ) (r : Run) (s : State) → onward c place r ≡ finished s → (c ≡ Check.Fine) × (r ≡ finished s)
-goes-on Check.Fine place r s e = (refl, e)
-goes-on (Check.Bad x) place r s e = absurd (let z : _≡_ {A = ℕ} 0 1 = cc in omega arith)
-
-all-lines : (text : List ℕ) (T : ℕ) → T ≤ longest → (at k : ℕ) (xs : List ℕ) → at + length xs ≤ T → (s end : State)
-    → Met T (at + k) s → run text (linesAfter at k xs) s ≡ finished end → 0 < length (end .components)
-    → Meets T (end .components) (end .properties) (end .parameters)
-unfolding run linesAfter
-all-lines text T short at k [] h s end m e some = let q : s ≡ end = cc in rw (← q) (met m (rw q some))
-all-lines text T short at zero (x ∷ xs) h s end m e some =
-    let line : List ℕ = take (contentLen (x ∷ xs)) (x ∷ xs) in
-    let g = goes-on (checkOf text line (lineOf line) (s .opens)) at (run text (linesAfter (at + 1) (lineLen (x ∷ xs) - 1) xs) (after at line (lineOf line) s)) end e in
-    let n : length line ≤ lineLen (x ∷ xs) = omega (arith, length-take (contentLen (x ∷ xs)) (x ∷ xs), content-within (x ∷ xs)) in
-    let n′ : length line ≤ length (x ∷ xs) = omega (arith, length-take (contentLen (x ∷ xs)) (x ∷ xs)) in
-    let next = step s (further at (omega arith) m) text line (omega arith) (omega arith) (lineOf line) (sound line) (g .0) in
-    all-lines text T short (at + 1) (lineLen (x ∷ xs) - 1) xs (omega arith) (after at line (lineOf line) s) end
-    (further (at + 1 + (lineLen (x ∷ xs) - 1)) (omega arith) next) (g .1) some
-all-lines text T short at (suc k) (x ∷ xs) h s end m e some =
-    all-lines text T short (at + 1) k xs (omega arith) s end (further (at + 1 + k) (omega arith) m) e some
-
 -- a text within the byte limit that is read to the end, with at least one component, gives tables that break no rule
 pub meets-rule : (text : List ℕ) (s : State) → length text ≤ longest → runOf text ≡ finished s → 0 < length (s .components)
     → broken (length text) (s .components) (s .properties) (s .parameters) ≡ Nothing
 meets-rule text s short e some =
     not-broken (length text) (s .components) (s .properties) (s .parameters)
-    (all-lines text (length text) short 0 0 text (omega arith) nothing s (start (length text)) e some)
+    (met
+    (at-the-end text (Met (length text)) (λ at at′ s h m. further at′ h m)
+    (λ at s m line fits l o c. step s m text line fits (omega arith) l o c)
+    (start (length text)) s e)
+    some)
 
 -- so every readable feed gives tables that break no rule
 pub readable-meets : {feed : List ℕ} {s : State} → Readable feed s → broken (length (unfolded feed)) (s .components) (s .properties) (s .parameters) ≡ Nothing
 readable-meets {feed} {s} r = meets-rule (unfolded feed) s (omega (arith, r .short, length-unfolded feed)) (r .reads) (r .some)
 
+-- the rows at the front of a buffer, as many as there are, lent on by themselves, are read back
+pub rows-told : {A : Type 0} {size : ℕ} {words : A → List ℕ} {from : List ℕ → ℕ → A} → Shape size words from → (rows : List A) (n : ℕ) (new rest : List ℕ)
+    → n ≡ length rows → new ≡ flat words rows ++ rest → rowsOf size (rowAt size from) (take (size * n) new) ≡ rows
+rows-told shape rows n new rest c h = rw (h, c, ← length-flat shape rows, take-append-seam) (rows-exact shape rows)
+
 -- and the bytes and rows that a reading answered Done leaves at the front of the buffers, lent on by themselves, break none
 pub done-meets : (feed : List ℕ) (b : Lent) → readInto feed b .answer ≡ done → brokenIn (toldOf (readInto feed b) (left feed b)) ≡ Nothing
 done-meets feed b e = go (done-readable feed b e .0) (done-readable feed b e .1) (done-readable feed b e .2)
   where
-    front : {A : Type 0} {size : ℕ} {words : A → List ℕ} {from : List ℕ → ℕ → A} → Shape size words from → (rows : List A) (n : ℕ) (new rest : List ℕ)
-        → n ≡ length rows → new ≡ flat words rows ++ rest → rowsOf size (rowAt size from) (take (size * n) new) ≡ rows
-    front shape rows n new rest c h = rw (h, c, ← length-flat shape rows, take-append-seam) (rows-exact shape rows)
-
     go : (s : State) → Readable feed s → ReadTo feed b s → brokenIn (toldOf (readInto feed b) (left feed b)) ≡ Nothing
     go s r t =
         rw (
-          front component-shape (s .components) (readInto feed b .components) (left feed b .components) _ (ap (λ (r : Reading). r .components) (t .numbers)) (t .components),
-          front property-shape (s .properties) (readInto feed b .properties) (left feed b .properties) _ (ap (λ (r : Reading). r .properties) (t .numbers)) (t .properties),
-          front parameter-shape (s .parameters) (readInto feed b .parameters) (left feed b .parameters) _ (ap (λ (r : Reading). r .parameters) (t .numbers)) (t .parameters),
+          rows-told component-shape (s .components) (readInto feed b .components) (left feed b .components) _ (ap (λ (r : Reading). r .components) (t .numbers)) (t .components),
+          rows-told property-shape (s .properties) (readInto feed b .properties) (left feed b .properties) _ (ap (λ (r : Reading). r .properties) (t .numbers)) (t .properties),
+          rows-told parameter-shape (s .parameters) (readInto feed b .parameters) (left feed b .parameters) _ (ap (λ (r : Reading). r .parameters) (t .numbers)) (t .parameters),
           t .text,
           ap (λ (r : Reading). r .length) (t .numbers),
           take-append-seam,

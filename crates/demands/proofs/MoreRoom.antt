@@ -21,7 +21,9 @@ use Rattle.lines.specs.declared.Fault.the-variants.{BadLine}
 use Rattle.reading.specs.Answers.{numberOf, told, roomFor, readingOf, textAfter}
 use Rattle.reading.specs.declared.Reading.{Reading}
 use Rattle.demands.specs.Readable.{Readable}
-use Rattle.demands.specs.Lent.{Lent, Longer, roomIn, readInto, left}
+use Rattle.tables.specs.Lent.{Lent}
+use Rattle.reading.specs.Lent.{roomIn, readInto, left}
+use Rattle.demands.specs.Lent.{Longer}
 use Rattle.demands.specs.Room.{countsIn, AtMost, Exceeds, SameLeft}
 use Rattle.demands.proofs.Cases.{Answered, cases, exactly}
 use Rattle.demands.proofs.Cases.Answered.{too-long, no-text-room, not-readable, no-room, all-read}

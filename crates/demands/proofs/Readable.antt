@@ -21,7 +21,8 @@ use Rattle.tables.proofs.Laws.{Shape, length-flat, rows-back, component-shape, 
 use Rattle.nesting.specs.Steps.{State, countsOf, run}
 use Rattle.reading.specs.Answers.{told, textAfter}
 use Rattle.reading.specs.declared.Reading.{Reading}
-use Rattle.demands.specs.Lent.{Lent, roomIn, readInto}
+use Rattle.tables.specs.Lent.{Lent}
+use Rattle.reading.specs.Lent.{roomIn, readInto}
 use Rattle.demands.specs.Readable.{Readable, ReadTo}
 use Rattle.demands.specs.Room.{AtMost}
 use Rattle.demands.proofs.Cases.{Answered, cases, exactly}

@@ -9,7 +9,8 @@ use Rattle.unfolding.specs.Unfold.{unfolded}
 use Rattle.tables.specs.Rows.{componentSize, propertySize, parameterSize, componentWords, propertyWords, parameterWords, componentAt, propertyAt, parameterAt, rowsOf, flat}
 use Rattle.nesting.specs.Steps.{State, finished, runOf, countsOf}
 use Rattle.reading.specs.Answers.{told}
-use Rattle.demands.specs.Lent.{Lent, readInto, left}
+use Rattle.tables.specs.Lent.{Lent}
+use Rattle.reading.specs.Lent.{readInto, left}
 
 -- the feed is within the byte limit, each line of its unfolded text may stand where it does, and at the end nothing is open and there is
 -- a component; s has the rows

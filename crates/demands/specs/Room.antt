@@ -7,7 +7,7 @@ use lib.ListN.{length, take, drop}
 use Rattle.tables.specs.Rows.{componentSize, propertySize, parameterSize}
 use Rattle.nesting.specs.declared.Counts.{Counts}
 use Rattle.reading.specs.declared.Reading.{Reading}
-use Rattle.demands.specs.Lent.{Lent}
+use Rattle.tables.specs.Lent.{Lent}
 
 -- the three counts that a reading names
 abbrev pub countsIn : Reading → Counts
