@@ -52,6 +52,7 @@ pub fn feed(kind: &str, bytes: usize) -> String {
         "lf-only" => calendar("\n", bytes),
         "nested" => nested(bytes),
         "one-line" => one_line(bytes),
+        "hostile" => hostile(bytes),
         _ => panic!("no feed is called {kind}"),
     }
 }
@@ -89,6 +90,12 @@ fn nested(bytes: usize) -> String {
     wrapped("VCALENDAR", bytes, "\r\n", |n| {
         format!("BEGIN:VEVENT\r\nUID:{n}\r\nBEGIN:VALARM\r\nACTION:AUDIO\r\nEND:VALARM\r\nEND:VEVENT\r\n")
     })
+}
+
+/// Tens of thousands of small components, each followed by a property of its parent: a search of all properties for each would take
+/// time that grows with the square.
+fn hostile(bytes: usize) -> String {
+    wrapped("VCALENDAR", bytes, "\r\n", |_| "BEGIN:A\r\nEND:A\r\nK:v\r\n".into())
 }
 
 /// One property whose line takes up all there is.

@@ -1,10 +1,12 @@
-//! The proved functions beside the Rust's, in one program. See `bench/run`.
+//! The proved functions beside the Rust's, and beside libical where it is installed, in one program. See `bench/run`.
 //!   bench [ROW..]                            times both sides, turn and turn about
 //!   bench --list [ROW..]                     the rows, each with its feed
 //!   bench --to PLACE SIDE ROW FEED BYTES     runs one side to `start` or to `stop`: for a count of its instructions
 //!   bench --stack [ROW..]                    the stack that each side takes
 mod clock;
 mod feeds;
+#[cfg(libical)]
+mod libical;
 mod ours;
 mod rows;
 use clock::{Clock, Measure};
@@ -18,13 +20,13 @@ fn main() {
         ["--list", ref names @ ..] => for_each(names, |row, kind, bytes| println!("{} {kind} {bytes}", row.name)),
         ["--to", place, side, name, kind, bytes] => run_to(place, side, name, kind, bytes.parse().unwrap()),
         ["--stack", ref names @ ..] => {
-            println!("{:8}{:10}{:>9}{:>9}{:>9}  bytes of stack, at most", "row", "feed", "bytes", "ours", "Rust");
+            println!("{:8}{:10}{:>9}{:>9}{:>9}  bytes of stack, at most", "row", "feed", "bytes", "ours", "theirs");
             for_each(names, stack);
         }
         ref names => {
             println!(
                 "{:8}{:10}{:>9}{:>13}{:>13}{:>11}{:>11}{:>11}",
-                "row", "feed", "bytes", "ours ms", "Rust ms", "ours MB/s", "Rust MB/s", "ours is"
+                "row", "feed", "bytes", "ours ms", "theirs ms", "ours MB/s", "their MB/s", "ours is"
             );
             for_each(names, times);
         }
@@ -49,13 +51,13 @@ fn times(row: &Row, kind: &str, bytes: usize) {
     let (parts, mut lent) = input(row, kind, bytes);
     assert!((row.same)(&parts, &mut lent), "{} {kind} {bytes}: the answers differ", row.name);
     let mut clock = Clock::new(Measure::Time);
-    let (mut ours, mut rust, mut spent, mut turns) = (f64::INFINITY, f64::INFINITY, 0.0, 0);
+    let (mut ours, mut theirs, mut spent, mut turns) = (f64::INFINITY, f64::INFINITY, 0.0, 0);
     while turns < 5 || spent < 1.0 {
         (row.ours)(&parts, &mut lent, &mut clock);
         ours = ours.min(clock.seconds);
         spent += clock.seconds;
-        (row.rust)(&parts, &mut clock);
-        rust = rust.min(clock.seconds);
+        (row.theirs)(&parts, &mut clock);
+        theirs = theirs.min(clock.seconds);
         spent += clock.seconds;
         turns += 1;
     }
@@ -65,10 +67,10 @@ fn times(row: &Row, kind: &str, bytes: usize) {
         "{:8}{kind:10}{worked:9}{:13.4}{:13.4}{:11.0}{:11.0}{:>11}",
         row.name,
         ours * 1e3,
-        rust * 1e3,
+        theirs * 1e3,
         rate(ours),
-        rate(rust),
-        format!("{:.1}x", rust / ours)
+        rate(theirs),
+        format!("{:.1}x", theirs / ours)
     );
 }
 
@@ -78,7 +80,7 @@ fn run_to(place: &str, side: &str, name: &str, kind: &str, bytes: usize) {
     let mut clock = Clock::new(if place == "start" { Measure::EndAtStart } else { Measure::EndAtStop });
     match side {
         "ours" => (row.ours)(&parts, &mut lent, &mut clock),
-        _ => (row.rust)(&parts, &mut clock),
+        _ => (row.theirs)(&parts, &mut clock),
     }
 }
 
@@ -87,6 +89,6 @@ fn stack(row: &Row, kind: &str, bytes: usize) {
     let mut clock = Clock::new(Measure::Stack);
     (row.ours)(&parts, &mut lent, &mut clock);
     let ours = clock.stack;
-    (row.rust)(&parts, &mut clock);
+    (row.theirs)(&parts, &mut clock);
     println!("{:8}{kind:10}{bytes:9}{ours:9}{:9}", row.name, clock.stack);
 }

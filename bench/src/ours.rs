@@ -17,6 +17,19 @@ unsafe extern "C" {
     );
     fn hawniretem_fold_line(line: *const u8, line_len: usize, out: *mut u8, out_len: usize, numbers: *mut [usize; 3]);
     fn hawniretem_quote(value: *const u8, value_len: usize, out: *mut u8, out_len: usize, numbers: *mut [usize; 3]);
+    fn hawniretem_write(
+        text: *const u8,
+        text_len: usize,
+        components: *const u32,
+        components_len: usize,
+        properties: *const u32,
+        properties_len: usize,
+        parameters: *const u32,
+        parameters_len: usize,
+        out: *mut u8,
+        out_len: usize,
+        numbers: *mut [usize; 3],
+    );
 }
 
 /// What a caller lends: nothing else is written.
@@ -76,5 +89,27 @@ pub fn fold_line(line: &[u8], out: &mut [u8]) -> [usize; 3] {
 pub fn quote(value: &[u8], out: &mut [u8]) -> [usize; 3] {
     let mut numbers = [0; 3];
     unsafe { hawniretem_quote(value.as_ptr(), value.len(), out.as_mut_ptr(), out.len(), &mut numbers) }
+    numbers
+}
+
+/// Writes what a reading told of: the text and the rows by its numbers.
+pub fn write(told: [usize; 6], lent: &mut Lent) -> [usize; 3] {
+    let Lent { text, components: c, properties: p, parameters: q, out } = lent;
+    let mut numbers = [0; 3];
+    unsafe {
+        hawniretem_write(
+            text.as_ptr(),
+            told[2],
+            c.as_ptr(),
+            4 * told[3],
+            p.as_ptr(),
+            5 * told[4],
+            q.as_ptr(),
+            6 * told[5],
+            out.as_mut_ptr(),
+            out.len(),
+            &mut numbers,
+        )
+    }
     numbers
 }

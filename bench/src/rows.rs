@@ -1,8 +1,10 @@
-//! The rows of the table. Each does the same work on both sides, between the clock's `start` and `stop`; what the Rust
-//! returns is freed behind `stop`, but for the lines and values, of which each is freed before the next, as its writer does.
+//! The rows of the table. Each does the same work on both sides, between the clock's `start` and `stop`; what the other side
+//! returns is freed behind `stop`, but for the lines and values, of which each is freed before the next, as the Rust's writer does.
 use crate::clock::Clock;
+#[cfg(libical)]
+use crate::libical;
 use crate::ours::{self, Lent};
-use icalendar::parser::oracle::{folded, quoted};
+use icalendar::parser::oracle::{folded, quoted, written};
 use icalendar::parser::{Component, read_component, unfold};
 use std::hint::black_box;
 
@@ -13,8 +15,9 @@ pub struct Row {
     /// What the work is done on, of a feed.
     pub parts: fn(String) -> Vec<String>,
     pub ours: fn(&[String], &mut Lent, &mut Clock),
-    pub rust: fn(&[String], &mut Clock),
-    /// Whether both sides give the same, in whole.
+    /// The Rust, or in the row `libical` that library.
+    pub theirs: fn(&[String], &mut Clock),
+    /// Whether both sides give the same, in whole; of libical's answer the rows are counted.
     pub same: fn(&[String], &mut Lent) -> bool,
 }
 
@@ -28,7 +31,15 @@ const FEEDS: &[(&str, usize)] = &[
     ("one-line", 1 << 20),
 ];
 
-pub const ROWS: &[Row] = &[UNFOLD, READ, FOLD, QUOTE];
+pub const ROWS: &[Row] = &[
+    UNFOLD,
+    READ,
+    FOLD,
+    QUOTE,
+    WRITE,
+    #[cfg(libical)]
+    LIBICAL,
+];
 
 const UNFOLD: Row = Row {
     name: "unfold",
@@ -40,7 +51,7 @@ const UNFOLD: Row = Row {
         black_box(ours::unfold(feed, &mut lent.text));
         clock.stop();
     },
-    rust: |parts, clock| {
+    theirs: |parts, clock| {
         let feed = black_box(parts[0].as_str());
         clock.start();
         let text = black_box(unfold(feed));
@@ -57,13 +68,8 @@ const READ: Row = Row {
     name: "read",
     feeds: FEEDS,
     parts: |feed| vec![feed],
-    ours: |parts, lent, clock| {
-        let feed = black_box(parts[0].as_bytes());
-        clock.start();
-        black_box(ours::read(feed, lent));
-        clock.stop();
-    },
-    rust: |parts, clock| {
+    ours: our_read,
+    theirs: |parts, clock| {
         let feed = black_box(parts[0].as_str());
         clock.start();
         let text = unfold(feed);
@@ -84,7 +90,7 @@ const FOLD: Row = Row {
     feeds: FEEDS,
     parts: |feed| unfold(&feed).lines().map(str::to_owned).collect(),
     ours: |lines, lent, clock| over_all(ours::fold_line, lines, lent, clock),
-    rust: |lines, clock| each(folded, lines, clock),
+    theirs: |lines, clock| each(folded, lines, clock),
     same: |lines, lent| all_same(ours::fold_line, folded, lines, lent),
 };
 
@@ -95,9 +101,68 @@ const QUOTE: Row = Row {
         unfold(&feed).lines().filter_map(|line| line.split_once(':')).map(|(_, value)| value.to_owned()).collect()
     },
     ours: |values, lent, clock| over_all(ours::quote, values, lent, clock),
-    rust: |values, clock| each(quoted, values, clock),
+    theirs: |values, clock| each(quoted, values, clock),
     same: |values, lent| all_same(ours::quote, quoted, values, lent),
 };
+
+/// The tables of a reading written, and the Rust's tree of the same feed; neither reading is timed.
+const WRITE: Row = Row {
+    name: "write",
+    feeds: &[("calendar", 1 << 20), ("calendar", 1 << 19), ("nested", 1 << 20), ("hostile", 1 << 20), ("hostile", 1 << 19)],
+    parts: |feed| vec![feed],
+    ours: |parts, lent, clock| {
+        let told = ours::read(parts[0].as_bytes(), lent);
+        clock.start();
+        black_box(ours::write(black_box(told), lent));
+        clock.stop();
+    },
+    theirs: |parts, clock| {
+        let text = unfold(&parts[0]);
+        let tree = read_component(&text).unwrap();
+        clock.start();
+        let feed = black_box(written(black_box(&tree)));
+        clock.stop();
+        drop(feed);
+    },
+    same: |parts, lent| {
+        let told = ours::read(parts[0].as_bytes(), lent);
+        let [answer, _, length] = ours::write(told, lent);
+        let feed = String::from_utf8(lent.out[..length].to_vec()).unwrap();
+        answer == 0 && unquoted(&feed) == unquoted(&written(&read_component(&unfold(&parts[0])).unwrap()))
+    },
+};
+
+/// What both writers give alike: they fold elsewhere, and the Rust's raw writer sets no quotes.
+fn unquoted(feed: &str) -> String {
+    unfold(feed).replace('"', "")
+}
+
+/// The same reading beside libical's.
+#[cfg(libical)]
+const LIBICAL: Row = Row {
+    name: "libical",
+    feeds: FEEDS,
+    parts: |feed| vec![feed],
+    ours: our_read,
+    theirs: |parts, clock| {
+        let feed = black_box(libical::string(&parts[0]));
+        clock.start();
+        let tree = black_box(libical::parse(&feed));
+        clock.stop();
+        drop(tree);
+    },
+    same: |parts, lent| {
+        let numbers = ours::read(parts[0].as_bytes(), lent);
+        numbers[0] == 0 && libical::parse(&libical::string(&parts[0])).counts() == Some([numbers[3], numbers[4]])
+    },
+};
+
+fn our_read(parts: &[String], lent: &mut Lent, clock: &mut Clock) {
+    let feed = black_box(parts[0].as_bytes());
+    clock.start();
+    black_box(ours::read(feed, lent));
+    clock.stop();
+}
 
 type Writes = fn(&[u8], &mut [u8]) -> [usize; 3];
 

@@ -7,6 +7,7 @@ import itertools
 import random
 import re
 import string
+import struct
 
 LIMIT = 65_536          # the longest case: `replay` takes no longer ones
 
@@ -272,9 +273,9 @@ def folded(rng, text, br, often):
     return bytes(out)
 
 
-def any_feed(rng):
+def any_feed(rng, prop=any_prop, name=any_name):
     br, lines = rng.choice((b"\n", b"\r\n")), []
-    for line in tree_lines(any_tree(rng, 5, any_prop, any_name), rng):
+    for line in tree_lines(any_tree(rng, 5, prop, name), rng):
         lines += [b""] * rng.choice((0, 0, 0, 0, 0, 1, 2)) + [line]
     text = feed(lines + [b""] * rng.choice((0, 0, 1, 3)), br, rng.random() < .8)
     return folded(rng, text, br, rng.choice((0, 0, .02, .2)))
@@ -402,27 +403,82 @@ def read_random(rng):
             yield hurt
 
 
-# ---------------------------------------------------------------- writing: a tree in the canonical form
+# ---------------------------------------------------------------- writing: tables and a text
+# A case: the numbers of words of the three tables, their words, the text. Trees are laid out plainly, or by dice.
 
-def dumped(tree):
-    name, props, children = tree
-    out = " C =" + name.hex()
-    for k, params, v in props:
-        out += f" P ={k.hex()} ={v.hex()}"
-        for pk, pv, _ in params:
-            out += f" p ={pk.hex()}" if pv is None else f" v ={pk.hex()} ={pv.hex()}"
-    return out + "".join(map(dumped, children)) + " E"
+NO_PARENT = 0xFFFFFFFF
+
+
+class Layout:
+    """Rows and text of trees. With dice, parts of the text are shared, properties of a component stand among its children,
+    and behind the last row some words are left over, too few for a row."""
+
+    def __init__(self, tops, rng=None):
+        self.rng, self.text, self.components, self.owned = rng, bytearray(), [], []
+        for tree in tops:
+            self.add(tree, NO_PARENT, 1)
+
+    def view(self, part):
+        """Start and length of a part: behind the rest of the text or, by dice, where it stands already."""
+        at = -1
+        if self.rng and self.rng.random() < .5:
+            at = self.text.find(part, self.rng.randint(0, len(self.text)))
+        if at < 0:
+            at = len(self.text)
+            self.text += part
+        return [at, len(part)]
+
+    def add(self, tree, parent, depth):
+        name, props, children = tree
+        row, waiting = len(self.components), list(props)
+        self.components.append([parent, depth, *self.view(name)])
+        for child in children:
+            waiting.insert(self.rng.randint(0, len(waiting)) if self.rng else len(waiting), child)
+        for item in waiting:
+            if isinstance(item[2], bytes):          # a property ends with its value, a tree with its children
+                self.owned.append((row, item))
+            else:
+                self.add(item, row, depth + 1)
+
+    def mix(self):
+        """Properties in any order, those of one component in theirs."""
+        waiting = {row: [p for r, p in self.owned if r == row] for row, _ in self.owned}
+        rows = [row for row, _ in self.owned]
+        self.rng.shuffle(rows)
+        self.owned = [(row, waiting[row].pop(0)) for row in rows]
+
+    def tables(self):
+        properties, parameters = [], []
+        for number, (row, (key, params, value)) in enumerate(self.owned):
+            properties.append([row, *self.view(key), *self.view(value)])
+            for k, v, _ in params:
+                parameters.append([number, *self.view(k), *([0, 0, 0] if v is None else [1, *self.view(v)])])
+        return [self.words(size, rows) for size, rows in ((4, self.components), (5, properties), (6, parameters))]
+
+    def words(self, size, rows):
+        spare = self.rng.randrange(size) if self.rng else 0
+        return sum(rows, []) + [self.rng.getrandbits(32) for _ in range(spare)]
+
+    def case(self):
+        tables = self.tables()
+        words = [len(t) for t in tables] + sum(tables, [])
+        return struct.pack(f"<{len(words)}I", *words) + bytes(self.text)
 
 
 def plain(v):
     return bytes(c for c in v if c < 128 and c not in b"\r\n")
 
 
+def plain_value(rng):
+    """A parameter value that needs no quotes."""
+    return re.sub(rb'[:;,"]', b"", plain(any_text(rng, LOOSE)))[:20] or b"b"
+
+
 def write_param(rng):
     k = any_key(rng, True)
     if rng.random() < .2:
         return k, None, b";" + k
-    v = re.sub(rb'[:;,"]', b"", plain(any_text(rng, LOOSE)))[:20] or b"b"
+    v = plain_value(rng)
     return k, v, b";" + k + b"=" + v
 
 
@@ -441,7 +497,7 @@ def write_name(rng):
 
 def write_fixed():
     def one(k, params, v):
-        return dumped((b"A", [(k, params, v)], [])).encode()
+        return Layout([(b"A", [(k, params, v)], [])]).case()
 
     for v in exhaustive(symbols(';:=",A \t\\.'), 4):
         yield one(b"K", [], v)
@@ -455,16 +511,91 @@ def write_fixed():
             yield one(b"K", [(b"", b"q" * (n - 2), b"")], b"")
             yield one(b"K" * n, [], b"")
     for n in range(50, 70):                # BEGIN lines of 56 to 75 bytes
-        yield dumped((b"N" * n, [], [])).encode()
+        yield Layout([(b"N" * n, [], [])]).case()
+    yield from write_nests()
+
+
+def write_nests():
+    """Every forest of up to six components, 64 levels, and many rows."""
+    for n in range(1, 7):
+        for tops in forests(n):
+            yield Layout(tops).case()
+            for seed in range(8):
+                laid = Layout(tops, random.Random(seed))
+                yield laid.case()
+                laid.mix()
+                yield laid.case()
     tree = (b"X", [(b"K", [], b"v")], [])
     for _ in range(63):
-        tree = (b"X", [(b"K", [], b"v")], [tree])
-    yield dumped(tree).encode()
+        tree = (b"X", [(b"K", [], b"v"), (b"L", [], b"w")], [tree])
+    many = [(b"B", [(b"L%d" % i, [(b"P", b"%d" % i, b"")], b"w")], []) for i in range(600)]
+    for tops in ([tree], [(b"A", [(b"K%d" % i, [], b"v") for i in range(600)], many)], many):
+        yield Layout(tops).case()
+        laid = Layout(tops, random.Random(1))
+        yield laid.case()
+        laid.mix()
+        yield laid.case()
+
+
+def forests(n):
+    """All forests of n components, each with two properties."""
+    if n == 0:
+        yield []
+    for inside in range(n):
+        for a in forests(inside):
+            for b in forests(n - 1 - inside):
+                yield [(b"N%d" % n, [(b"K%d" % n, [(b"P", b"%d" % inside, b"")], b"v"), (b"L", [], b"")], a), *b]
 
 
 def write_random(rng):
     while True:
-        yield dumped(any_tree(rng, 5, write_prop, write_name)).encode()
+        tops = [any_tree(rng, 5, write_prop, write_name) for _ in range(rng.choice((1, 1, 1, 2, 3)))]
+        yield Layout(tops).case()
+        laid = Layout(tops, rng)
+        yield laid.case()
+        laid.mix()
+        yield laid.case()
+
+
+# ---------------------------------------------------------------- reading and then writing: feeds in both domains
+
+def readwrite_param(rng):
+    k, v, _ = write_param(rng)
+    front = b";" + word(rng, symbols(" \t"), 0, rng.choice((0, 0, 2))) + k
+    if v is None:
+        return k, v, front + rng.choice((b"", b"="))
+    return k, v, front + rng.choice((b"=%s", b'="%s"')) % v
+
+
+def written_line(k, params, v):
+    return k + b"".join(b";" + pk + (b"" if pv is None else b"=" + pv) for pk, pv, _ in params) + b":" + v
+
+
+def readwrite_prop(rng):
+    while True:
+        k, params = any_key(rng), [readwrite_param(rng) for _ in range(rng.choice((0, 0, 1, 2)))]
+        room = 75 - len(written_line(k, params, b""))
+        if room > 0:
+            return k, params, fit_value(plain(any_text(rng, LOOSE)))[:room]
+
+
+def readwrite_fixed():
+    for v in exhaustive(symbols('A:;," =\t.'), 4):
+        if v == fit_value(v):
+            yield from inside_a(b"K:" + v)
+    for v in exhaustive(symbols("=A \t.'"), 4):
+        for form in (b"K;P=%s:v", b'K;P="%s":v', b"K; P=%s;Q:v") if v else (b"K;P:v", b"K;P=:v", b"K;;=:v"):
+            yield from inside_a(form % v if v else form)
+    for n in range(7):
+        for lines in nests(n):
+            yield from inside_a(b"K:v", *lines, b"L:w")
+    for n in range(60, 74):
+        yield from inside_a(b"K:" + b"v" * n, b"B;P=q;Q:" + b"w" * (n - 6))
+
+
+def readwrite_random(rng):
+    while True:
+        yield any_feed(rng, readwrite_prop, write_name)
 
 
 # ---------------------------------------------------------------- escapes: valid UTF-8; escapes the colon mode knows
@@ -497,6 +628,7 @@ def unescape_random(rng):
 PARTS = {"unfold": (unfold_fixed, unfold_random), "key": (key_fixed, key_random), "keyseq": (key_fixed, key_random),
          "param": (param_fixed, param_random), "params": (param_fixed, param_random), "fold": (fold_fixed, fold_random),
          "quote": (quote_fixed, quote_random), "read": (read_fixed, read_random), "write": (write_fixed, write_random),
+         "readwrite": (readwrite_fixed, readwrite_random),
          "escape": (escape_fixed, escape_random), "unescape": (unescape_fixed, unescape_random)}
 
 

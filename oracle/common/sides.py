@@ -13,7 +13,7 @@ TARGET = ROOT / "target" / "oracle"
 
 # The first byte of a frame of `replay`.
 LETTERS = {"unfold": b"u", "key": b"k", "keyseq": b"s", "param": b"p", "params": b"P",
-           "fold": b"f", "quote": b"q", "read": b"r", "write": b"w"}
+           "fold": b"f", "quote": b"q", "read": b"r", "write": b"w", "readwrite": b"W"}
 
 
 class Failed(Exception):

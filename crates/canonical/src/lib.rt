@@ -14,7 +14,7 @@ use tables::PropertyRow;
 // The largest number of 64 bits, where a sum stops.
 const MOST: usize = 18_446_744_073_709_551_615;
 
-fn wide(x: u32) -> usize
+pub fn wide(x: u32) -> usize
     ensures { λ r. ⌜ r ≡ x ⌝ }
 {
     x as usize
@@ -60,7 +60,7 @@ fn lay_hex(bytes: &[u8], out: &mut [u8], at: usize) -> usize {
     end
 }
 
-fn lay_refusal(out: &mut [u8]) -> usize {
+pub fn lay_refusal(out: &mut [u8]) -> usize {
     octets::lay(b"err", out, 0)
 }
 
@@ -71,7 +71,7 @@ fn lay_count(n: usize, out: &mut [u8]) -> usize {
 }
 
 // Lays `ok` and the bytes that an output left at the front of the text, or `err` where it was refused.
-fn lay_output(answered: Output, text: &[u8], out: &mut [u8]) -> usize {
+pub fn lay_output(answered: Output, text: &[u8], out: &mut [u8]) -> usize {
     if answered.answer != octets::DONE {
         return lay_refusal(out);
     }
@@ -307,7 +307,7 @@ fn lay_components(
 }
 
 // The part of a table that holds so many rows: all of it where it has fewer.
-fn component_part(rows: usize, components: &[u32]) -> &[u32] {
+pub fn component_part(rows: usize, components: &[u32]) -> &[u32] {
     if tables::component_rows(components) < rows {
         return components;
     }
@@ -315,7 +315,7 @@ fn component_part(rows: usize, components: &[u32]) -> &[u32] {
     &components[0..end]
 }
 
-fn property_part(rows: usize, properties: &[u32]) -> &[u32] {
+pub fn property_part(rows: usize, properties: &[u32]) -> &[u32] {
     if tables::property_rows(properties) < rows {
         return properties;
     }
@@ -323,7 +323,7 @@ fn property_part(rows: usize, properties: &[u32]) -> &[u32] {
     &properties[0..end]
 }
 
-fn parameter_part(rows: usize, parameters: &[u32]) -> &[u32] {
+pub fn parameter_part(rows: usize, parameters: &[u32]) -> &[u32] {
     if tables::parameter_rows(parameters) < rows {
         return parameters;
     }
@@ -381,7 +381,7 @@ fn lay_small(part: u8, case: &[u8], text: &mut [u8], out: &mut [u8]) -> usize {
 }
 
 // Closes the line. The length is the one needed where the buffer is too short for it.
-fn close_line(end: usize, out: &mut [u8]) -> Output {
+pub fn close_line(end: usize, out: &mut [u8]) -> Output {
     let length = octets::lay(b"\n", out, end);
     octets::room_for(length, out.len())
 }

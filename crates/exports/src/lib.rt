@@ -2,11 +2,13 @@
 ghost use mathlib.Core.Path.{_≡_};
 ghost use lib.ListN.{length};
 ghost use Rattle.unfolding.specs.Parts.{Unfolding};
-ghost use Rattle.reading.specs.Answers.{whole, textAfter, componentsAfter, propertiesAfter, parametersAfter};
+ghost use Rattle.tables.specs.Lent.{lent};
+ghost use Rattle.reading.specs.Lent.{readInto, left};
 ghost use Rattle.folding.specs.Strict.{strict};
 ghost use Rattle.folding.specs.Repository.{repository};
 ghost use Rattle.folding.specs.Answers.{foldAnswer, foldOut};
 ghost use Rattle.quoting.specs.Answers.{quoteAnswer, quoteOut};
+ghost use Rattle.writing.specs.Answers.{writeAnswer, writeOut};
 ghost use Rattle.exports.specs.Numbers.{readingNumbers, outputNumbers};
 use octets::Output;
 use reading::Reading;
@@ -43,11 +45,10 @@ pub extern "C" fn hawniretem_read(
     parameters: &mut [u32],
     numbers: &mut [usize; 6],
 )
-    ensures { λ _. ⌜ now (numbers .exit) ≡ readingNumbers (whole (now (feed .entry)) (now (text .entry)) (now (components .entry)) (now (properties .entry)) (now (parameters .entry))) ⌝ }
-    ensures { λ _. ⌜ now (text .exit) ≡ textAfter (now (feed .entry)) (now (text .entry)) ⌝ }
-    ensures { λ _. ⌜ now (components .exit) ≡ componentsAfter (now (feed .entry)) (now (text .entry)) (now (components .entry)) (now (properties .entry)) (now (parameters .entry)) ⌝ }
-    ensures { λ _. ⌜ now (properties .exit) ≡ propertiesAfter (now (feed .entry)) (now (text .entry)) (now (components .entry)) (now (properties .entry)) (now (parameters .entry)) ⌝ }
-    ensures { λ _. ⌜ now (parameters .exit) ≡ parametersAfter (now (feed .entry)) (now (text .entry)) (now (components .entry)) (now (properties .entry)) (now (parameters .entry)) ⌝ }
+    ensures { λ _. ⌜ now (numbers .exit)
+        ≡ readingNumbers (readInto (now (feed .entry)) (lent (now (text .entry)) (now (components .entry)) (now (properties .entry)) (now (parameters .entry)))) ⌝ }
+    ensures { λ _. ⌜ lent (now (text .exit)) (now (components .exit)) (now (properties .exit)) (now (parameters .exit))
+        ≡ left (now (feed .entry)) (lent (now (text .entry)) (now (components .entry)) (now (properties .entry)) (now (parameters .entry))) ⌝ }
 {
     tell_reading(
         reading::read_components(feed, text, components, properties, parameters),
@@ -87,4 +88,25 @@ pub extern "C" fn hawniretem_quote(value: &[u8], out: &mut [u8], numbers: &mut [
     ensures { λ _. ⌜ now (out .exit) ≡ quoteOut (now (value .entry)) (now (out .entry)) ⌝ }
 {
     tell(quoting::quote_special_chars(value, out), numbers)
+}
+
+// Writes the trees of three tables as a calendar.
+#[no_mangle]
+pub extern "C" fn hawniretem_write(
+    text: &[u8],
+    components: &[u32],
+    properties: &[u32],
+    parameters: &[u32],
+    out: &mut [u8],
+    numbers: &mut [usize; 3],
+)
+    ensures { λ _. ⌜ now (numbers .exit)
+        ≡ outputNumbers (writeAnswer (lent (now (text .entry)) (now (components .entry)) (now (properties .entry)) (now (parameters .entry))) (length (now (out .entry)))) ⌝ }
+    ensures { λ _. ⌜ now (out .exit)
+        ≡ writeOut (lent (now (text .entry)) (now (components .entry)) (now (properties .entry)) (now (parameters .entry))) (now (out .entry)) ⌝ }
+{
+    tell(
+        writing::write_components(text, components, properties, parameters, out),
+        numbers,
+    )
 }

@@ -3,6 +3,19 @@ use libc::STDIN_FILENO;
 use libc::STDOUT_FILENO;
 use octets::Output;
 
+// Room for all that a case of 65,536 bytes can hold, and for its line.
+const FRAME: usize = 65_537;
+
+const TEXT: usize = 131_072;
+
+const COMPONENTS: usize = 20_000;
+
+const PROPERTIES: usize = 163_840;
+
+const PARAMETERS: usize = 393_216;
+
+const LINE: usize = 1_048_576;
+
 // The length of a frame, least byte first.
 fn frame_length(a: u8, b: u8, c: u8, d: u8) -> usize {
     a as usize + 256 * (b as usize + 256 * (c as usize + 256 * d as usize))
@@ -66,7 +79,7 @@ fn answer_one(
         return write_refusal();
     }
     let part = frame[0];
-    let done = canonical::answer(
+    let done = rewriting::answer(
         part,
         &frame[1..length],
         text,
@@ -80,12 +93,12 @@ fn answer_one(
 
 // A proved loop has to end, and nothing says that the input does. So it counts down from a number that no run uses up.
 fn answer_all(
-    frame: &mut [u8; 65537],
-    text: &mut [u8; 131072],
-    components: &mut [u32; 20000],
-    properties: &mut [u32; 163840],
-    parameters: &mut [u32; 393216],
-    out: &mut [u8; 1048576],
+    frame: &mut [u8; FRAME],
+    text: &mut [u8; TEXT],
+    components: &mut [u32; COMPONENTS],
+    properties: &mut [u32; PROPERTIES],
+    parameters: &mut [u32; PARAMETERS],
+    out: &mut [u8; LINE],
 ) {
     let mut turns = u64::MAX;
     while turns > 0 && answer_one(frame, text, components, properties, parameters, out) {
@@ -93,14 +106,13 @@ fn answer_all(
     }
 }
 
-// Room for all that a case of 65,536 bytes can hold, and for its line.
 fn main() {
-    let mut frame = [0u8; 65537];
-    let mut text = [0u8; 131072];
-    let mut components = [0u32; 20000];
-    let mut properties = [0u32; 163840];
-    let mut parameters = [0u32; 393216];
-    let mut out = [0u8; 1048576];
+    let mut frame = [0u8; FRAME];
+    let mut text = [0u8; TEXT];
+    let mut components = [0u32; COMPONENTS];
+    let mut properties = [0u32; PROPERTIES];
+    let mut parameters = [0u32; PARAMETERS];
+    let mut out = [0u8; LINE];
     answer_all(
         &mut frame,
         &mut text,

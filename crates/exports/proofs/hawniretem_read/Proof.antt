@@ -22,7 +22,7 @@ same-length-4 : tie.Need-same-length-4
 same-length-4 c = search needs
 
 returns : tie.Need-returns
-returns c = (cc, (cc, (cc, (cc, cc))))
+returns c = (cc, cc)
 
 pub hawniretem-read-spec : {M : Type 1} → statement M
 hawniretem-read-spec =

@@ -15,9 +15,9 @@ use std::time::Instant;
 type VE<'a> = VerboseError<&'a str>;
 
 const PARTS: [&str; 16] = [
-    "unfold", "key", "keyseq", "param", "params", "fold", "quote", "read", "write", "escape",
-    "unescape", // compared
-    "property", "readrest", "components", "readwrite", // to look at only
+    "unfold", "key", "keyseq", "param", "params", "fold", "quote", "read", "write", "readwrite",
+    "escape", "unescape", // compared
+    "property", "readrest", "components", // to look at only
     "replay", // any of those with a letter, named by each case itself
 ];
 
@@ -34,6 +34,7 @@ fn lettered(case: &[u8]) -> Option<(&'static str, &[u8])> {
         b'q' => "quote",
         b'r' => "read",
         b'w' => "write",
+        b'W' => "readwrite",
         _ => return None,
     };
     Some((part, rest))
@@ -47,11 +48,6 @@ fn hex(b: &[u8]) -> String {
         s.push(D[(x & 15) as usize] as char);
     }
     s
-}
-fn unhex(s: &str) -> Vec<u8> {
-    (0..s.len() / 2)
-        .map(|i| u8::from_str_radix(&s[2 * i..2 * i + 2], 16).unwrap())
-        .collect()
 }
 fn ok_hex(s: &str) -> String {
     format!("ok {}", hex(s.as_bytes()))
@@ -95,34 +91,59 @@ fn dump(c: &Component<'_>, out: &mut String) {
     }
     out.push_str(" E");
 }
-fn undump<'a>(toks: &mut std::iter::Peekable<impl Iterator<Item = &'a str>>) -> Component<'static> {
-    fn s<'a>(toks: &mut impl Iterator<Item = &'a str>) -> ParseString<'static> {
-        let t = toks.next().unwrap().strip_prefix('=').unwrap();
-        String::from_utf8(unhex(t)).unwrap().into()
+
+/// A case of `write`: the numbers of words of the three tables, the words of each, and the text.
+struct Tables<'a> {
+    text: &'a str,
+    components: Vec<u32>,
+    properties: Vec<u32>,
+    parameters: Vec<u32>,
+}
+fn words<'a>(case: &mut &'a [u8], count: usize) -> Vec<u32> {
+    let (front, rest) = case.split_at(4 * count);
+    *case = rest;
+    front.chunks_exact(4).map(|word| u32::from_le_bytes(word.try_into().unwrap())).collect()
+}
+impl<'a> Tables<'a> {
+    /// Nothing where the text is not UTF-8.
+    fn of(mut case: &'a [u8]) -> Option<Self> {
+        let counts = words(&mut case, 3);
+        let [components, properties, parameters] =
+            [0, 1, 2].map(|table| words(&mut case, counts[table] as usize));
+        let text = std::str::from_utf8(case).ok()?;
+        Some(Tables { text, components, properties, parameters })
     }
-    assert_eq!(toks.next(), Some("C"));
-    let mut c = Component { name: s(toks), properties: vec![], components: vec![] };
-    loop {
-        if *toks.peek().unwrap() == "C" {
-            c.components.push(undump(toks));
-            continue;
-        }
-        match toks.next().unwrap() {
-            "E" => return c,
-            "P" => {
-                let (name, val) = (s(toks), s(toks));
-                c.properties.push(Property { name, val, params: vec![] });
-            }
-            "p" => {
-                let key = s(toks);
-                c.properties.last_mut().unwrap().params.push(Parameter { key, val: None });
-            }
-            "v" => {
-                let (key, val) = (s(toks), Some(s(toks)));
-                c.properties.last_mut().unwrap().params.push(Parameter { key, val });
-            }
-            t => panic!("bad token {t}"),
-        }
+    fn part(&self, start: u32, length: u32) -> ParseString<'a> {
+        self.text[start as usize..][..length as usize].into()
+    }
+    /// The trees whose parent is this row, in order; for the word that stands for none, the top ones.
+    fn below(&self, parent: u32) -> Vec<Component<'a>> {
+        let rows = self.components.chunks_exact(4).zip(0..);
+        rows.filter(|(word, _)| word[0] == parent)
+            .map(|(word, row)| Component {
+                name: self.part(word[2], word[3]),
+                properties: self.owned_by(row),
+                components: self.below(row),
+            })
+            .collect()
+    }
+    fn owned_by(&self, owner: u32) -> Vec<Property<'a>> {
+        let rows = self.properties.chunks_exact(5).zip(0..);
+        rows.filter(|(word, _)| word[0] == owner)
+            .map(|(word, row)| Property {
+                name: self.part(word[1], word[2]),
+                val: self.part(word[3], word[4]),
+                params: self.held_by(row),
+            })
+            .collect()
+    }
+    fn held_by(&self, property: u32) -> Vec<Parameter<'a>> {
+        let rows = self.parameters.chunks_exact(6).filter(|word| word[0] == property);
+        rows.map(|word| Parameter {
+            key: self.part(word[1], word[2]),
+            val: (word[3] == 1).then(|| self.part(word[4], word[5])),
+        })
+        .collect()
     }
 }
 
@@ -143,8 +164,14 @@ fn one(part: &str, raw: &[u8]) -> String {
     if part == "replay" {
         return lettered(raw).map_or_else(|| "unknown".into(), |(part, case)| one(part, case));
     }
+    let not_utf8 = || "notutf8".to_owned();
+    // each tree of the tables, through LikeComponent::fmt_write
+    if part == "write" {
+        let trees = Tables::of(raw).map(|tables| tables.below(u32::MAX));
+        return trees.map_or_else(not_utf8, |trees| ok_hex(&trees.iter().map(written).collect::<String>()));
+    }
     let Ok(s) = std::str::from_utf8(raw) else {
-        return "notutf8".into();
+        return not_utf8();
     };
     let err = || "err".to_owned();
     match part {
@@ -179,8 +206,11 @@ fn one(part: &str, raw: &[u8]) -> String {
             }
             Err(_) => err(),
         },
-        // a tree in the dump form, through LikeComponent::fmt_write
-        "write" => ok_hex(&written(&undump(&mut s.split_whitespace().peekable()))),
+        // unfold, read_component, LikeComponent::fmt_write
+        "readwrite" => match read_component(&unfold(s)) {
+            Ok(c) => ok_hex(&written(&c)),
+            Err(_) => err(),
+        },
         "escape" => ok_hex(&escape_text(s)),
         "unescape" => ok_hex(&unescape_text(s)),
 
@@ -217,11 +247,6 @@ fn one(part: &str, raw: &[u8]) -> String {
                 cs.iter().for_each(|c| dump(c, &mut o));
                 o
             }
-            Err(_) => err(),
-        },
-        // unfold, read_component, LikeComponent::fmt_write
-        "readwrite" => match read_component(&unfold(s)) {
-            Ok(c) => ok_hex(&written(&c)),
             Err(_) => err(),
         },
         _ => unreachable!(),
