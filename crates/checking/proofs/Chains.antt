@@ -10,6 +10,7 @@ use lib.Seq.{getD-set-same, getD-set-other}
 use lib.Dec.{eqb, leb}
 use borrow.Author.Tests.{eqb-true, eqb-false, eq-eqb, ne-eqb, leb-true, le-leb}
 use Rattle.octets.specs.Answers.{deepest}
+use Rattle.octets.proofs.Bools.{both}
 use Rattle.tables.specs.Rows.{noParent}
 use Rattle.tables.specs.TableRule.{outFrom, ancestors, inside, some, parentFits, parentDepth, depthFits, componentFits, opensAfter}
 use Rattle.tables.specs.declared.ComponentRow.{ComponentRow}
@@ -43,11 +44,6 @@ found rows (suc d) j r h = go (eqb d j) refl (found rows d j (record { rise = λ
     go false e next =
         let l : j < d = omega (arith, eqb-false d j e) in
         rw (ne-eqb (getD rows d 0) (getD rows j 0) (λ q. omega (arith, r .rise j d l (omega arith)))) (next l)
-
-both : (s t : Bool) → (s && t) ≡ true → (s ≡ true) × (t ≡ true)
-both true true h = (refl, refl)
-both true false h = (refl, h)
-both false t h = (h, cc)
 
 not-both : (s t : Bool) → (s ≡ true → t ≡ true → ⊥) → false ≡ (s && t)
 not-both true true h = absurd (h refl refl)

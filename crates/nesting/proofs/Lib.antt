@@ -4,3 +4,4 @@ pub mod Parameters
 pub mod Checks
 pub mod Passing
 pub mod Lines
+mod Examples

@@ -2,17 +2,17 @@
 use mathlib.Core.Path.{_≡_, refl, sym, ap, _∙_}
 use mathlib.Core.Bool.{Bool, true, false, not}
 use mathlib.Core.List.{List, [], _∷_, _++_}
-use Prim.Native.Nat.{ℕ, zero, suc, _+_, _*_, _/_, _%_, _^_, _≤_, _<_}
-use native.Mathlib.Nat.{zero-add, suc-add, mul-one}
+use Prim.Native.Nat.{ℕ, zero, suc, _+_, _-_, _*_, _/_, _%_, _^_, _≤_, _<_}
+use native.Mathlib.Nat.{zero-add, add-zero, suc-add, mul-one}
 use native.Mathlib.Omega.{arith}
 use lib.ListN.{length, getD, drop}
 use lib.Seq.{drop-cons}
-use lib.Dec.{eqb, lit<, lit≤}
+use lib.Dec.{eqb, leb, lit<, lit≤}
 use lib.Bits.{bitAnd, bitOr, bitXor, and-le-l, and-le-r, and-zero-l, or-zero-l, xor-zero-l, and-block, or-block, or-lt, xor-block, xor-lt, xor-self, xor-add-and, shifted-half, shifted-even}
 use lib.Count.{trailingZeros, trailing-of-zero}
-use borrow.Author.Tests.{eqb-true, eqb-false, eq-eqb, ne-eqb}
+use borrow.Author.Tests.{eqb-true, eqb-false, eq-eqb, ne-eqb, leb-true, leb-false, le-leb, lt-leb}
 use Rattle.octets.specs.Choice.{pick}
-use Rattle.octets.specs.Bytes.{capital, other}
+use Rattle.octets.specs.Bytes.{capital, common, other}
 use Rattle.octets.specs.Runs.{run}
 use Rattle.octets.specs.Numbers.{each, number, marks, eight}
 use Rattle.octets.proofs.Runs.{within, through, ends-inside}
@@ -100,34 +100,33 @@ differ-zero x b = go (eqb x b) refl
     go true e = eq-eqb (bitXor x b) 0 (ap (λ (n : ℕ). bitXor x n) (sym (eqb-true x b e)) ∙ xor-self x)
     go false e = ne-eqb (bitXor x b) 0 (λ z. eqb-false x b e (zero-same x b z))
 
--- ---- which bytes are no capital letters
+-- ---- which bytes stand outside a range: `from` lifts its first byte to the top bit, and `past` the byte behind its last
 
-abbrev pub others : ℕ → ℕ → ℕ → ℕ → ℕ → ℕ
-others low from past high n = bitAnd (bitOr (bitXor (bitXor (bitAnd n low + from) (bitAnd n low + past)) high) n) high
+abbrev pub outside : ℕ → ℕ → ℕ → ℕ → ℕ → ℕ
+outside low from past high n = bitAnd (bitOr (bitXor (bitXor (bitAnd n low + from) (bitAnd n low + past)) high) n) high
 
-other-mark : (x : ℕ) → x < 256 → others 127 63 37 128 x ≡ pick (capital x) 0 128
-other-mark = equal (others 127 63 37 128) (λ (x : ℕ). pick (capital x) 0 128) 256 refl
-
-others-each : (xs : List ℕ) → Bytes xs
-    → others (each (λ (x : ℕ). 127) xs) (each (λ (x : ℕ). 63) xs) (each (λ (x : ℕ). 37) xs) (each (λ (x : ℕ). 128) xs) (number xs) ≡ marks capital xs
-others-each xs k =
-    let high : ℕ → ℕ = λ (x : ℕ). 128 in
-    let self : ℕ → ℕ = λ (x : ℕ). x in
-    let within-z : ℕ → ℕ = λ (x : ℕ). bitXor (lower 63 x) (lower 37 x) in
-    let flipped : ℕ → ℕ = λ (x : ℕ). bitXor (within-z x) 128 in
-    let w : Small within-z = λ (x : ℕ) h. xor-lt 8 (lower 63 x) (lower 37 x) (lower-small 63 (lit≤ tt) x h) (lower-small 37 (lit≤ tt) x h) in
-    let f : Small flipped = λ (x : ℕ) h. xor-lt 8 (within-z x) 128 (w x h) (lit< tt) in
-    let o : Small (λ (x : ℕ). bitOr (flipped x) x) = λ (x : ℕ) h. or-lt 8 (flipped x) x (f x h) h in
-    rw (
-      and-each self (λ (x : ℕ). 127) (λ (x : ℕ) h. h) (λ (x : ℕ) h. lit< tt) xs k,
-      sums (λ (x : ℕ). bitAnd x 127) (λ (x : ℕ). 63) xs,
-      sums (λ (x : ℕ). bitAnd x 127) (λ (x : ℕ). 37) xs,
-      xor-each (lower 63) (lower 37) (lower-small 63 (lit≤ tt)) (lower-small 37 (lit≤ tt)) xs k,
-      xor-each within-z high w (λ (x : ℕ) h. lit< tt) xs k,
-      or-each flipped self f (λ (x : ℕ) h. h) xs k,
-      and-each (λ (x : ℕ). bitOr (flipped x) x) high o (λ (x : ℕ) h. lit< tt) xs k,
-    )
-    (alike (others 127 63 37 128) (λ (x : ℕ). pick (capital x) 0 128) other-mark xs k)
+module _ (from past : ℕ) (small-from : from ≤ 128) (small-past : past ≤ 128) (class : ℕ → Bool)
+    (mark : (x : ℕ) → x < 256 → outside 127 from past 128 x ≡ pick (class x) 0 128) where
+  outside-each : (xs : List ℕ) → Bytes xs
+      → outside (each (λ (x : ℕ). 127) xs) (each (λ (x : ℕ). from) xs) (each (λ (x : ℕ). past) xs) (each (λ (x : ℕ). 128) xs) (number xs) ≡ marks class xs
+  outside-each xs k =
+      let high : ℕ → ℕ = λ (x : ℕ). 128 in
+      let self : ℕ → ℕ = λ (x : ℕ). x in
+      let within-range : ℕ → ℕ = λ (x : ℕ). bitXor (lower from x) (lower past x) in
+      let flipped : ℕ → ℕ = λ (x : ℕ). bitXor (within-range x) 128 in
+      let w : Small within-range = λ (x : ℕ) h. xor-lt 8 (lower from x) (lower past x) (lower-small from small-from x h) (lower-small past small-past x h) in
+      let f : Small flipped = λ (x : ℕ) h. xor-lt 8 (within-range x) 128 (w x h) (lit< tt) in
+      let o : Small (λ (x : ℕ). bitOr (flipped x) x) = λ (x : ℕ) h. or-lt 8 (flipped x) x (f x h) h in
+      rw (
+        and-each self (λ (x : ℕ). 127) (λ (x : ℕ) h. h) (λ (x : ℕ) h. lit< tt) xs k,
+        sums (λ (x : ℕ). bitAnd x 127) (λ (x : ℕ). from) xs,
+        sums (λ (x : ℕ). bitAnd x 127) (λ (x : ℕ). past) xs,
+        xor-each (lower from) (lower past) (lower-small from small-from) (lower-small past small-past) xs k,
+        xor-each within-range high w (λ (x : ℕ) h. lit< tt) xs k,
+        or-each flipped self f (λ (x : ℕ) h. h) xs k,
+        and-each (λ (x : ℕ). bitOr (flipped x) x) high o (λ (x : ℕ) h. lit< tt) xs k,
+      )
+      (alike (outside 127 from past 128) (λ (x : ℕ). pick (class x) 0 128) mark xs k)
 
 -- ---- the eight bytes from a place on
 
@@ -148,8 +147,16 @@ module _ (a : List ℕ) (at : ℕ) (known : (i : ℕ) → getD a i 0 < 256) wher
       ∙ alike (λ (x : ℕ). zeros 127 128 (differ x)) (λ (x : ℕ). pick (other b x) 0 128)
       (λ (x : ℕ) k. zero-mark (differ x) (small x k) ∙ ap (λ (t : Bool). pick (not t) 0 128) (differ-zero x b)) xs bytes
 
-  pub found-others : others 0x7f7f7f7f7f7f7f7f 0x3f3f3f3f3f3f3f3f 0x2525252525252525 0x8080808080808080 (number (eight a at)) ≡ marks capital (eight a at)
-  found-others = others-each (eight a at) bytes
+  pub found-others : outside 0x7f7f7f7f7f7f7f7f 0x3f3f3f3f3f3f3f3f 0x2525252525252525 0x8080808080808080 (number (eight a at)) ≡ marks capital (eight a at)
+  found-others =
+      outside-each 63 37 (lit≤ tt) (lit≤ tt) capital
+      (equal (outside 127 63 37 128) (λ (x : ℕ). pick (capital x) 0 128) 256 refl) (eight a at) bytes
+
+  -- a range that ends at 127 has no byte behind it that is lifted
+  pub found-uncommon : outside 0x7f7f7f7f7f7f7f7f 0x6060606060606060 0 0x8080808080808080 (number (eight a at)) ≡ marks common (eight a at)
+  found-uncommon =
+      outside-each 96 0 (lit≤ tt) (lit≤ tt) common
+      (equal (outside 127 96 0 128) (λ (x : ℕ). pick (common x) 0 128) 256 refl) (eight a at) bytes
 
 -- ---- the first mark tells how long the run is
 
@@ -227,3 +234,32 @@ module _ (class : ℕ → Bool) (a : List ℕ) (at : ℕ) (h : at + 8 ≤ length
     goes-on none =
         let full : run class (eight a at) ≡ 8 = sym told ∙ ap (λ (n : ℕ). trailingZeros 64 n / 8) none ∙ ap (λ (n : ℕ). n / 8) (trailing-of-zero 64) in
         ap (run class) in-front ∙ through class (eight a at) (drop (at + 8) a) full
+
+-- ---- a loop over eights for whether n bytes from a place on are of a class: those before i are, and it may look past the n
+
+module _ (class : ℕ → Bool) (a : List ℕ) (at n : ℕ) where
+  pub record Passed (i : ℕ) : Type 0 where
+    pub left : i + run class (drop (at + i) a) ≡ run class (drop at a)
+
+  pub passed-none : Passed 0
+  passed-none = record { left = zero-add _ ∙ ap (λ (k : ℕ). run class (drop k a)) (add-zero at) }
+
+  module _ {i : ℕ} (r : Passed i) where
+    pub passed-all : n ≤ i → true ≡ leb n (run class (drop at a))
+    passed-all h = sym (le-leb n (run class (drop at a)) (omega (arith, r .left)))
+
+    module _ (h : at + i + 8 ≤ length a) (m : ℕ) (e : m ≡ marks class (eight a (at + i))) where
+      pub passed-more : m ≡ 0 → Passed (i + 8)
+      passed-more none =
+          let f : at + i + 8 ≡ at + (i + 8) = omega arith in
+          record { left = omega (arith, r .left, rw f at (goes-on class a (at + i) h m e none)) }
+
+      pub passed-some : (m ≡ 0 → ⊥) → i < n → {first : ℕ} → first ≡ trailingZeros 64 m / 8 → leb (n - i) first ≡ leb n (run class (drop at a))
+      passed-some some l {first} f = go (leb (n - i) first) refl
+        where
+          ends : run class (drop at a) ≡ i + first
+          ends = omega (arith, r .left, ends-here class a (at + i) h m e some)
+
+          go : (t : Bool) → leb (n - i) first ≡ t → t ≡ leb n (run class (drop at a))
+          go true t = sym (le-leb n (run class (drop at a)) (omega (arith, ends, leb-true (n - i) first t)))
+          go false t = sym (lt-leb n (run class (drop at a)) (omega (arith, ends, leb-false (n - i) first t)))

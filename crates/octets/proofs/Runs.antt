@@ -7,10 +7,12 @@ use native.Mathlib.Nat.{zero-add, not-suc-le-zero, le-of-suc-le-suc}
 use native.Mathlib.Numerals.{add-one}
 use native.Mathlib.Omega.{arith}
 use lib.ListN.{length, getD, take, drop, drop-of-length-le}
-use lib.Seq.{drop-cons, drop-drop}
+use lib.Seq.{drop-cons, drop-drop, take-take}
 use lib.Dec.{leb, leb·zero, leb·suc-zero, leb·suc-suc}
+use borrow.Author.Tests.{leb-true, le-leb}
 use Rattle.octets.specs.Choice.{pick}
 use Rattle.octets.specs.Runs.{run, only}
+use Rattle.octets.specs.Views.{viewed}
 
 module _ (class : ℕ → Bool) where
   -- one byte: by its class the run goes on or ends
@@ -136,6 +138,16 @@ pub whole-wider : (narrow wide : ℕ → Bool) → ((x : ℕ) → narrow x ≡ t
 unfolding run
 whole-wider narrow wide sub [] h = refl
 whole-wider narrow wide sub (x ∷ xs) h = rw (sub x (whole-head narrow x xs h)) (ap suc (whole-wider narrow wide sub xs (whole-tail narrow x xs h)))
+
+-- bytes of a class from a place on: a view of them holds no others
+pub view-only : (narrow wide : ℕ → Bool) → ((x : ℕ) → narrow x ≡ true → wide x ≡ true) → (text : List ℕ) (start len : ℕ) → start + len ≤ length text
+    → leb len (run narrow (drop start text)) ≡ true → only wide (viewed text start len) ≡ true
+view-only narrow wide sub text start len h t =
+    let ys = drop start text in
+    let e : take len (take (run narrow ys) ys) ≡ take len ys = take-take len (run narrow ys) ys (leb-true len (run narrow ys) t) in
+    let w : run wide (take len ys) ≡ length (take len ys) =
+    whole-wider narrow wide sub (take len ys) (rw e at (whole-take narrow len (take (run narrow ys) ys) (whole narrow ys))) in
+    rw (le-leb (start + len) (length text) h) (le-leb (length (take len ys)) (run wide (take len ys)) (omega (arith, w)))
 
 -- ---- a loop for the longest run, which has passed i bytes of the class
 

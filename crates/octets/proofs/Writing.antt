@@ -2,16 +2,17 @@
 use mathlib.Core.Path.{_≡_, refl, sym, ap, _∙_}
 use mathlib.Core.Bool.{Bool, true, false}
 use mathlib.Core.List.{List, [], _∷_, _++_, append-nil, append-assoc}
-use Prim.Native.Nat.{ℕ, _+_, _-_, _≤_, min}
+use Prim.Native.Nat.{ℕ, suc, _+_, _-_, _≤_, _<_, min}
 use native.Mathlib.Nat.{zero-add, min-eq-left, min-eq-right, le-of-lt}
+use native.Mathlib.Numerals.{add-one}
 use native.Mathlib.Omega.{arith}
-use lib.ListN.{length, take, drop, drop-of-length-le, length-append, length-take, length-drop, take-append-drop}
-use lib.Seq.{take-all, take-append-add, drop-append-add, length-take-le}
+use lib.ListN.{length, set, take, drop, drop-of-length-le, length-append, length-take, length-drop, take-append-drop}
+use lib.Seq.{take-all, take-append-add, drop-append-add, drop-drop, length-take-le, set-split}
 use lib.Dec.{leb}
 use borrow.Author.Tests.{leb-true, leb-false}
 use Rattle.octets.specs.Laid.{laid, laidFrom, most, counted, Lays}
 use Rattle.octets.proofs.Lists.{lent}
-use Rattle.octets.proofs.Laid.{length-laid, nothing, then}
+use Rattle.octets.proofs.Laid.{whole, length-laid, nothing, then}
 
 -- past the end of the buffer nothing is laid
 past : (at : ℕ) (xs old : List ℕ) → length old ≤ at → laidFrom at xs old ≡ old
@@ -20,6 +21,15 @@ past at xs old h = rw (take-all at old h, drop-of-length-le old h) (by xs)
     by : (xs : List ℕ) → old ++ laid xs [] ≡ old
     by [] = append-nil old
     by (x ∷ xs) = append-nil old
+
+-- one byte: stored where there is room, and nowhere else
+pub none-laid : (at b : ℕ) (old : List ℕ) → length old ≤ at → old ≡ laidFrom at (b ∷ []) old
+none-laid at b old h = sym (past at (b ∷ []) old h)
+
+pub one-laid : (at b : ℕ) (old : List ℕ) → at < length old → set old at b ≡ laidFrom at (b ∷ []) old
+one-laid at b old h =
+    let room : 1 ≤ length (drop at old) = omega (arith, length-drop at old) in
+    set-split old at b h ∙ ap (_++_ (take at old)) (sym (whole (b ∷ []) (drop at old) room ∙ ap (_∷_ b) (drop-drop 1 at old ∙ rw add-one)))
 
 pub length-from : (at : ℕ) (xs old : List ℕ) → length (laidFrom at xs old) ≡ length old
 length-from at xs old = omega (arith, length-append (take at old) (laid xs (drop at old)), length-laid xs (drop at old), length-take at old, length-drop at old)

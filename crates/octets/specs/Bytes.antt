@@ -48,6 +48,10 @@ keyByte x =
     capital x
     || (between 97 122 x || (between 48 57 x || (eqb x 46 || (eqb x comma || (eqb x 47 || (eqb x 95 || eqb x 45))))))
 
+-- from the space on and below 128: what values are mostly made of
+abbrev pub common : ℕ → Bool
+common = between 32 127
+
 abbrev pub other : ℕ → ℕ → Bool
 other b x = not (eqb x b)
 

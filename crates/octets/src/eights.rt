@@ -3,7 +3,7 @@ ghost use mathlib.Core.Path.{_≡_};
 ghost use Prim.Native.Nat.{_+_, _/_, _≤_, _<_};
 ghost use lib.ListN.{length, getD};
 ghost use lib.Count.{trailingZeros};
-ghost use Rattle.octets.specs.Bytes.{capital, other};
+ghost use Rattle.octets.specs.Bytes.{capital, common, other};
 ghost use Rattle.octets.specs.Numbers.{number, marks, eight};
 
 // 1 in each byte, the lower seven bits of each, and the top bit of each.
@@ -16,6 +16,8 @@ const HIGH: u64 = 0x8080_8080_8080_8080;
 const FROM_A: u64 = 0x3f3f_3f3f_3f3f_3f3f;
 
 const PAST_Z: u64 = 0x2525_2525_2525_2525;
+// What lifts a space there.
+const FROM_SPACE: u64 = 0x6060_6060_6060_6060;
 
 fn byte(a: &[u8], at: usize) -> u64
     requires { ⌜ at < length (now a) ⌝ }
@@ -59,6 +61,17 @@ pub fn marks_of_others(a: &[u8], at: usize) -> u64
     let low = bytes & LOW;
     let capitals = (low + FROM_A) ^ (low + PAST_Z);
     ((capitals ^ HIGH) | bytes) & HIGH
+}
+
+// Marks each of the 8 bytes from `at` on that stands before the space or is 128 or more.
+pub fn marks_of_uncommon(a: &[u8], at: usize) -> u64
+    requires { ⌜ at + 8 ≤ length (now a) ⌝ }
+    ensures { λ r. ⌜ r ≡ marks common (eight (now (a .entry)) at) ⌝ }
+{
+    let bytes = number_at(a, at);
+    let low = bytes & LOW;
+    let behind = (low + FROM_SPACE) ^ low;
+    ((behind ^ HIGH) | bytes) & HIGH
 }
 
 // How many bytes stand before the first mark.

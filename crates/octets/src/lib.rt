@@ -1,16 +1,18 @@
 // Bytes: their classes, keys, equal parts, words in any case, views, and the numbers that every answer is made of.
 ghost use mathlib.Core.Path.{_≡_};
 ghost use mathlib.Core.Bool.{Bool, true, false};
+ghost use mathlib.Core.List.{_∷_, [], _++_};
 ghost use Prim.Native.Nat.{_+_, _≤_, min};
-ghost use lib.ListN.{length, getD, drop};
-ghost use lib.Dec.{ltb};
-ghost use Rattle.octets.specs.Bytes.{keyByte, lowered, other};
+ghost use lib.ListN.{length, getD, take, drop};
+ghost use lib.Dec.{leb, ltb};
+ghost use denote.Ref.{ptr};
+ghost use Rattle.octets.specs.Bytes.{capital, common, keyByte, lowered, other};
 ghost use Rattle.octets.specs.Laid.{laid, counted, Lays};
 ghost use Rattle.octets.specs.Answers.{roomAnswer};
 ghost use Rattle.octets.specs.Runs.{run};
 ghost use Rattle.octets.specs.Words.{sameBytes, startsWord};
-ghost use Rattle.octets.specs.Keys.{keyOf, opensReserved, standsAlone, stopsAt};
-ghost use Rattle.octets.specs.Views.{viewed};
+ghost use Rattle.octets.specs.Keys.{keyOf, opensReserved, reserved, standsAlone, stopsAt};
+ghost use Rattle.octets.specs.Views.{viewed, viewedAt, bytesOn};
 
 mod eights;
 mod key_bytes;
@@ -88,12 +90,24 @@ fn skip_capitals(line: &[u8]) -> usize
     i
 }
 
-// The length of the longest run of key bytes at the front.
-pub fn key_run(line: &[u8]) -> usize
+// Whether what ends most keys stands at i: one of : ; = or the end of the line.
+fn ends_key(line: &[u8], i: usize) -> bool
+    ensures { λ r. ⌜ (r ≡ true → run keyByte (drop i (now (line .entry))) ≡ 0) ⌝ }
+{
+    if line.len() <= i {
+        return true;
+    }
+    let b = line[i];
+    (b == b':') | ((b == b';') | (b == b'='))
+}
+
+// The run of key bytes of which the first `from` are passed over, one byte after the other.
+fn key_run_on(line: &[u8], from: usize) -> usize
+    requires { ⌜ (from ≤ length (now line)) × (from + run keyByte (drop from (now line)) ≡ run keyByte (now line)) ⌝ }
     ensures { λ r. ⌜ r ≡ run keyByte (now (line .entry)) ⌝ }
 {
     let table = key_bytes::KEY_BYTES;
-    let mut i = skip_capitals(line);
+    let mut i = from;
     while i < line.len() {
         let b = line[i] as usize;
         if !table[b] {
@@ -102,6 +116,56 @@ pub fn key_run(line: &[u8]) -> usize
         i += 1;
     }
     i
+}
+
+// The length of the longest run of key bytes at the front. Where a key ends in the usual way the table is not laid out.
+pub fn key_run(line: &[u8]) -> usize
+    ensures { λ r. ⌜ r ≡ run keyByte (now (line .entry)) ⌝ }
+{
+    let i = skip_capitals(line);
+    if ends_key(line, i) {
+        return i;
+    }
+    key_run_on(line, i)
+}
+
+// Whether the n bytes from `at` on are capital letters. Eight are looked at together, and so are some behind the n.
+pub fn all_capitals(text: &[u8], at: usize, n: usize) -> bool
+    requires { ⌜ at + n + 8 ≤ length (now text) ⌝ }
+    ensures { λ r. ⌜ r ≡ leb n (run capital (drop at (now (text .entry)))) ⌝ }
+{
+    let mut i: usize = 0;
+    while i < n {
+        let marked = eights::marks_of_others(text, at + i);
+        if marked != 0 {
+            return n - i <= eights::first_mark(marked);
+        }
+        i += 8;
+    }
+    true
+}
+
+// Whether the n bytes from `at` on are common, in the same way.
+pub fn all_common(text: &[u8], at: usize, n: usize) -> bool
+    requires { ⌜ at + n + 8 ≤ length (now text) ⌝ }
+    ensures { λ r. ⌜ r ≡ leb n (run common (drop at (now (text .entry)))) ⌝ }
+{
+    let mut i: usize = 0;
+    while i < n {
+        let marked = eights::marks_of_uncommon(text, at + i);
+        if marked != 0 {
+            return n - i <= eights::first_mark(marked);
+        }
+        i += 8;
+    }
+    true
+}
+
+// Whether a view lies inside the text, with eight bytes and more behind it.
+pub fn eight_behind(text: &[u8], start: u32, len: u32) -> bool
+    ensures { λ r. ⌜ r ≡ leb (start + len + 8) (length (now (text .entry))) ⌝ }
+{
+    start as usize + len as usize + 8 <= text.len()
 }
 
 // How many bytes count as near: most lines are shorter.
@@ -170,8 +234,8 @@ pub fn least(a: usize, b: usize) -> usize
     if a < b { a } else { b }
 }
 
-// Lays the bytes over the front of a buffer, as far as it goes.
-pub fn put(bytes: &[u8], out: &mut [u8])
+// Lays the bytes over the front of a buffer, as far as it goes, one after the other. The loop becomes vector code.
+fn put_each(bytes: &[u8], out: &mut [u8])
     ensures { λ _. ⌜ now (out .exit) ≡ laid (now (bytes .entry)) (now (out .entry)) ⌝ }
 {
     let n = least(bytes.len(), out.len());
@@ -180,6 +244,47 @@ pub fn put(bytes: &[u8], out: &mut [u8])
         out[i] = bytes[i];
         i += 1;
     }
+}
+
+// Lays the eight bytes from `at` on at the same place. They go through a block that is no part of the buffer, so that they are moved as one number.
+fn put_eight(bytes: &[u8], out: &mut [u8], at: usize)
+    requires { ⌜ (at + 8 ≤ length (now bytes)) × (at + 8 ≤ length (now out)) ⌝ }
+    ensures { λ _. ⌜ now (out .exit) ≡ take at (now (out .entry)) ++ (take 8 (drop at (now (bytes .entry))) ++ drop (at + 8) (now (out .entry))) ⌝ }
+{
+    let end = at + 8;
+    let mut block = [0u8; 8];
+    put_each(&bytes[at..end], &mut block);
+    put_each(&block, &mut out[at..end])
+}
+
+// Lays n bytes, eight at a time; the last eight lie partly over those before, which are the same.
+fn put_eights(bytes: &[u8], out: &mut [u8], n: usize)
+    requires { ⌜ (8 ≤ n) × ((n ≤ length (now bytes)) × (n ≤ length (now out))) ⌝ }
+    ensures { λ _. ⌜ now (out .exit) ≡ take n (now (bytes .entry)) ++ drop n (now (out .entry)) ⌝ }
+{
+    let last = n - 8;
+    let mut i: usize = 0;
+    while i < last {
+        put_eight(bytes, out, i);
+        i += 8;
+    }
+    put_eight(bytes, out, last)
+}
+
+// Lays the bytes over the front of a buffer, as far as it goes. Most that is laid is neither so short nor so long that eight at a time is slow.
+pub fn put(bytes: &[u8], out: &mut [u8])
+    ensures { λ _. ⌜ now (out .exit) ≡ laid (now (bytes .entry)) (now (out .entry)) ⌝ }
+{
+    let n = least(bytes.len(), out.len());
+    if n < 8 {
+        put_each(bytes, out);
+        return;
+    }
+    if n <= NEAR {
+        put_eights(bytes, out, n);
+        return;
+    }
+    put_each(bytes, out)
 }
 
 // The largest number of 64 bits, where a count stops.
@@ -199,6 +304,17 @@ pub fn lay(bytes: &[u8], out: &mut [u8], at: usize) -> usize
     let from = least(at, out.len());
     put(bytes, &mut out[from..]);
     count_on(at, bytes.len())
+}
+
+// Lays one byte in the same way.
+pub fn lay_byte(b: u8, out: &mut [u8], at: usize) -> usize
+    ensures { λ r. ⌜ Lays at (b ∷ []) (now (out .entry)) (now (out .exit)) r ⌝ }
+{
+    if at < out.len() {
+        out[at] = b;
+        return count_on(at, 1);
+    }
+    count_on(at, 1)
 }
 
 // Whether so many bytes go into so much room: Done, or the length needed.
@@ -293,14 +409,22 @@ pub fn may_be_reserved(line: &[u8]) -> bool
     (b == b'B') | (b == b'b') | (b == b'E') | (b == b'e')
 }
 
-// The key at the front of a line. BEGINNING is a key; BEGIN is none where the word ends there.
+// Whether BEGIN or END stands at the front of a line and ends there. BEGINNING does not count.
+pub fn is_reserved(line: &[u8]) -> bool
+    ensures { λ r. ⌜ r ≡ reserved (now (line .entry)) ⌝ }
+{
+    if !may_be_reserved(line) {
+        return false;
+    }
+    stands_alone(b"BEGIN", line) | stands_alone(b"END", line)
+}
+
+// The key at the front of a line.
 pub fn property_key(line: &[u8]) -> Key
     ensures { λ r. ⌜ r ≡ keyOf (now (line .entry)) ⌝ }
 {
-    if may_be_reserved(line) {
-        if stands_alone(b"BEGIN", line) | stands_alone(b"END", line) {
-            return Key::Reserved;
-        }
+    if is_reserved(line) {
+        return Key::Reserved;
     }
     Key::Run(key_run(line))
 }
@@ -308,6 +432,7 @@ pub fn property_key(line: &[u8]) -> Key
 // The part of a text, or the empty part at its front where start and len reach outside.
 pub fn view(text: &[u8], start: usize, len: usize) -> &[u8]
     ensures { λ r. ⌜ now r ≡ viewed (now (text .entry)) start len ⌝ }
+    ensures { λ r. ⌜ ptr r ≡ bytesOn (viewedAt (now (text .entry)) start len) (ptr (text .entry)) ⌝ }
 {
     if text.len() < start {
         return &text[0..0];

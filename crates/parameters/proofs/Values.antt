@@ -16,11 +16,8 @@ use Rattle.octets.specs.Bytes.{quote, comma, bare, other}
 use Rattle.octets.specs.Runs.{run}
 use Rattle.parameters.specs.declared.Form.the-variants.{Nothing, Bare, Quoted, Listed}
 use Rattle.parameters.specs.Values.{insideLen, quotedHere, quotedLen, furtherAfter, furtherLen, formOf, formUsed}
+use Rattle.octets.proofs.Bools.{both}
 use Rattle.octets.proofs.Runs.{within, stopped}
-
-pub both : (a b : Bool) → a && b ≡ true → (a ≡ true) × (b ≡ true)
-both true b h = (refl, h)
-both false b h = let z : _≡_ {A = ℕ} 0 1 = cc in absurd (omega arith)
 
 -- a byte that is not 0 stands inside the list
 pub inside-of : (xs : List ℕ) (n : ℕ) {b : ℕ} → getD xs n 0 ≡ suc b → n < length xs

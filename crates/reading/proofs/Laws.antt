@@ -11,6 +11,7 @@ use lib.Dec.{eqb, leb}
 use borrow.Author.Tests.{le-leb, lt-leb, leb-true}
 use Rattle.octets.specs.Choice.{pick}
 use Rattle.octets.specs.Laid.{laid}
+use Rattle.octets.proofs.Bools.{both}
 use Rattle.octets.proofs.Laid.{whole, length-laid}
 use Rattle.octets.specs.Answers.{longest, done, noRoom, noTextRoom, tooLong}
 use Rattle.unfolding.specs.Unfold.{unfolded}
@@ -65,14 +66,6 @@ read-to-end text counts e = go (runOf text) refl e
 room-for : (size n len : ℕ) → 0 < size → n ≤ len / size → size * n ≤ len
 room-for size n len pos h = omega (arith, le-div-iff-mul-le pos .0 h, mul-comm size n)
 
-and-left : (a b : Bool) → a && b ≡ true → a ≡ true
-and-left true b e = refl
-and-left false b e = e
-
-and-right : (a b : Bool) → a && b ≡ true → b ≡ true
-and-right true b e = e
-and-right false b e = cc
-
 module _ {A : Type 0} {size : ℕ} {words : A → List ℕ} {from : List ℕ → ℕ → A} (shape : Shape size words from) where
   filled : (rows : List A) (n : ℕ) (old new : List ℕ) → n ≡ length rows → leb n (length old / size) ≡ true → new ≡ putRows size words 0 rows old
       → new ≡ laid (flat words rows) old
@@ -101,10 +94,10 @@ module _ (text c p q : List ℕ) (counts : Counts) (e : outcomeOf text ≡ Read 
       let s = w .state in
       let t = tabled s (w .run) in
       let n = w .counts in
-      let fc = and-left (leb (counts .components) (length c / componentSize)) _ f in
-      let fpq = and-right (leb (counts .components) (length c / componentSize)) _ f in
-      let fp = and-left (leb (counts .properties) (length p / propertySize)) _ fpq in
-      let fq = and-right (leb (counts .properties) (length p / propertySize)) _ fpq in
+      let fc = both (leb (counts .components) (length c / componentSize)) _ f .0 in
+      let fpq = both (leb (counts .components) (length c / componentSize)) _ f .1 in
+      let fp = both (leb (counts .properties) (length p / propertySize)) _ fpq .0 in
+      let fq = both (leb (counts .properties) (length p / propertySize)) _ fpq .1 in
       record {
         components = filled component-shape (s .components) (counts .components) c c′ (ap (λ (k : Counts). k .components) n) fc (t .components) ∙ rw (w .run);
         properties = filled property-shape (s .properties) (counts .properties) p p′ (ap (λ (k : Counts). k .properties) n) fp (t .properties) ∙ rw (w .run);

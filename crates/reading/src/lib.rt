@@ -73,7 +73,7 @@ fn have_room(counts: Counts, components: &[u32], properties: &[u32], parameters:
 }
 
 // Unfolds a feed into a text, which stays as it was where the feed does not fit. Returns the unfolded length.
-fn unfold_where_it_fits(feed: &[u8], text: &mut [u8]) -> usize
+pub fn unfold_where_it_fits(feed: &[u8], text: &mut [u8]) -> usize
     ensures { λ r. ⌜ r ≡ length (unfolded (now (feed .entry))) ⌝ }
     ensures { λ _. ⌜ now (text .exit) ≡ laidWhole (unfolded (now (feed .entry))) (now (text .entry)) ⌝ }
 {

@@ -7,17 +7,10 @@ use lib.ListN.{getD}
 use lib.Dec.{eqb}
 use borrow.Author.Tests.{eqb-true}
 use Rattle.octets.specs.Bytes.{blank, cr, lf}
+use Rattle.octets.proofs.Bools.{both}
 use Rattle.unfolding.specs.Unfold.{unfolded, unfoldedAfter}
 use Rattle.unfolding.specs.OnePass.{onePass}
 use Rattle.unfolding.proofs.Blanks.{blank-no-lf}
-
-and-left : (a b : Bool) → a && b ≡ true → a ≡ true
-and-left true b e = refl
-and-left false b e = e
-
-and-right : (a b : Bool) → a && b ≡ true → b ≡ true
-and-right true b e = e
-and-right false b e = cc
 
 -- with nothing to pass over, with the blank behind an LF, and with the LF and the blank behind a CR
 record Same (xs : List ℕ) : Type 0 where
@@ -31,12 +24,12 @@ module _ (x : ℕ) (xs : List ℕ) (ih : Same xs) where
   unfolding onePass unfoldedAfter
   at-none p true u h ht hu =
       rw ht
-      (ih .one (and-right (eqb x lf) _ ht) ∙ ap (λ (y : ℕ). unfoldedAfter y xs) (sym (eqb-true x lf (and-left _ _ ht))))
+      (ih .one (both (eqb x lf) _ ht .1) ∙ ap (λ (y : ℕ). unfoldedAfter y xs) (sym (eqb-true x lf (both _ _ ht .0))))
   at-none p false true h ht hu =
-      let b = and-right (eqb x cr) _ hu in
+      let b = both (eqb x cr) _ hu .1 in
       rw (ht, hu, h)
-      (ih .two (and-left _ _ b) (and-right (eqb (getD xs 0 0) lf) _ b)
-      ∙ ap (λ (y : ℕ). unfoldedAfter y xs) (sym (eqb-true x cr (and-left _ _ hu))))
+      (ih .two (both _ _ b .0) (both (eqb (getD xs 0 0) lf) _ b .1)
+      ∙ ap (λ (y : ℕ). unfoldedAfter y xs) (sym (eqb-true x cr (both _ _ hu .0))))
   at-none p false false h ht hu = rw (ht, hu, h) (ap (_∷_ x) (ih .none x (and-comm (blank (getD xs 0 0)) (eqb x lf) ∙ ht)))
 
   at-one : blank x ≡ true → onePass 1 (x ∷ xs) ≡ unfoldedAfter lf (x ∷ xs)

@@ -6,13 +6,12 @@ use Prim.Native.Nat.{ℕ, _+_, _/_, _≤_, _<_}
 use native.Mathlib.Nat.{add-zero, add-assoc}
 use native.Mathlib.Omega.{arith}
 use lib.ListN.{length, drop}
-use lib.Dec.{leb, ltb}
-use borrow.Author.Tests.{lt-ltb, le-ltb, not-true, not-false}
+use lib.Dec.{leb}
+use borrow.Author.Tests.{lt-ltb, le-ltb, leb-true, ne-eqb, not-true, not-false}
 use Rattle.octets.specs.Choice.{pick}
-use Rattle.octets.specs.Bytes.{cr, lf, quote, keyByte, other}
-use Rattle.octets.specs.Runs.{run, only}
-use Rattle.octets.specs.Keys.{reserved, keyOf}
-use Rattle.octets.specs.declared.Key.the-variants.{Reserved, Run}
+use Rattle.octets.specs.Bytes.{cr, lf, quote, capital, common, keyByte, other}
+use Rattle.octets.specs.Runs.{only}
+use Rattle.octets.specs.Keys.{reserved}
 use Rattle.parameters.specs.Values.{isList}
 use Rattle.folding.specs.Answers.{ascii}
 use Rattle.folding.proofs.Answers.{both}
@@ -57,23 +56,28 @@ module _ (value : List ℕ) where
     pub sound-quotes : (length value ≡ 0 → ⊥) → not q ≡ false → verdict (only noBreak value) (only ascii value) ≡ verdict (presentFits value) (only ascii value)
     sound-quotes full t = rw (lt-ltb 0 (length value) (omega arith), sym is ∙ not-false q t, and-true (only noBreak value))
 
+-- ---- what is seen at a look
+
+pub capital-key : (x : ℕ) → capital x ≡ true → keyByte x ≡ true
+capital-key x e = rw e
+
+pub common-clean : (x : ℕ) → common x ≡ true → clean x ≡ true
+common-clean x e = go (leb 32 x) refl e
+  where
+    go : (t : Bool) → leb 32 x ≡ t → t && leb x 127 ≡ true → clean x ≡ true
+    go true t u =
+        let h = leb-true 32 x t in
+        rw (ne-eqb x cr (λ z. omega arith), ne-eqb x lf (λ z. omega arith)) u
+    go false t u = cc
+
 -- ---- keys
 
 module _ (key : List ℕ) where
-  pub reserved-key : keyOf key ≡ Reserved → false ≡ keyFits key
-  reserved-key e = go (reserved key) e
-    where
-      go : (t : Bool) → pick t Reserved (Run (run keyByte key)) ≡ Reserved → false ≡ nameFits key && not t
-      go true e = sym (and-false (nameFits key))
-      go false e = cc
+  pub reserved-key : reserved key ≡ true → false ≡ keyFits key
+  reserved-key e = rw e (sym (and-false (nameFits key)))
 
-  pub run-key : {n : ℕ} → keyOf key ≡ Run n → ltb 0 (length key) && leb (length key) n ≡ keyFits key
-  run-key {n} e = go (reserved key) e
-    where
-      go : (t : Bool) → pick t Reserved (Run (run keyByte key)) ≡ Run n
-          → ltb 0 (length key) && leb (length key) n ≡ nameFits key && not t
-      go true e = cc
-      go false e = let same : run keyByte key ≡ n = cc in rw (same, and-true)
+  pub plain-key : reserved key ≡ false → nameFits key ≡ keyFits key
+  plain-key e = rw e (sym (and-true (nameFits key)))
 
 -- what stands behind a key of either kind
 module _ {r k : Bool} (is : r ≡ k) (a b : Bool) where

@@ -1,16 +1,16 @@
 // The writing rule as a test: which row of three tables is the first that cannot be written.
 ghost use mathlib.Core.Path.{_≡_};
-ghost use mathlib.Core.Bool.{_||_};
+ghost use mathlib.Core.Bool.{true, _||_};
 ghost use Prim.Native.Nat.{_+_, _/_, _≤_};
 ghost use lib.ListN.{length};
 ghost use Rattle.octets.specs.Bytes.{quote, keyByte, other};
 ghost use Rattle.octets.specs.Runs.{only};
+ghost use Rattle.octets.specs.Views.{viewed};
 ghost use Rattle.parameters.specs.Values.{isList};
 ghost use Rattle.folding.specs.Answers.{ascii};
 ghost use Rattle.tables.specs.Rows.{propertySize, parameterSize};
 ghost use Rattle.tables.specs.Lent.{lent, componentsIn, propertiesIn, parametersIn};
 ghost use Rattle.writable.specs.WritingRule.{nameFits, keyFits, noBreak, clean, presentFits, verdict, componentVerdict, propertyVerdict, parameterVerdict, judgedFrom, judgedIn};
-use octets::Key;
 use tables::ComponentRow;
 use tables::ParameterRow;
 use tables::PropertyRow;
@@ -29,27 +29,54 @@ pub enum Judged {
     NotAscii(usize),
 }
 
-fn of_key_bytes(key: &[u8]) -> bool
-    ensures { λ r. ⌜ r ≡ only keyByte (now (key .entry)) ⌝ }
+// Whether a part of the text is seen at a look to be made of capital letters, as most names and keys are.
+fn is_capital(text: &[u8], start: u32, len: u32) -> bool
+    ensures { λ r. ⌜ (r ≡ true → only keyByte (viewed (now (text .entry)) start len) ≡ true) ⌝ }
 {
+    if !octets::eight_behind(text, start, len) {
+        return false;
+    }
+    octets::all_capitals(text, start as usize, len as usize)
+}
+
+// Whether it is seen to be made of bytes that stop no value, as most values are.
+fn is_common(text: &[u8], start: u32, len: u32) -> bool
+    ensures { λ r. ⌜ (r ≡ true → only clean (viewed (now (text .entry)) start len) ≡ true) ⌝ }
+{
+    if !octets::eight_behind(text, start, len) {
+        return false;
+    }
+    octets::all_common(text, start as usize, len as usize)
+}
+
+// Whether a part of the text is made of key bytes.
+fn of_key_bytes(text: &[u8], start: u32, len: u32) -> bool
+    ensures { λ r. ⌜ r ≡ only keyByte (viewed (now (text .entry)) start len) ⌝ }
+{
+    if is_capital(text, start, len) {
+        return true;
+    }
+    let key = octets::view(text, start as usize, len as usize);
     key.len() <= octets::key_run(key)
 }
 
 // Whether a component may have this name.
-fn name_fits(name: &[u8]) -> bool
-    ensures { λ r. ⌜ r ≡ nameFits (now (name .entry)) ⌝ }
+fn name_fits(text: &[u8], start: u32, len: u32) -> bool
+    ensures { λ r. ⌜ r ≡ nameFits (viewed (now (text .entry)) start len) ⌝ }
 {
-    (0 < name.len()) & of_key_bytes(name)
+    let name = octets::view(text, start as usize, len as usize);
+    (0 < name.len()) & of_key_bytes(text, start, len)
 }
 
 // Whether a property may have this key: all of it is read as one.
-fn key_fits(key: &[u8]) -> bool
-    ensures { λ r. ⌜ r ≡ keyFits (now (key .entry)) ⌝ }
+fn key_fits(text: &[u8], start: u32, len: u32) -> bool
+    ensures { λ r. ⌜ r ≡ keyFits (viewed (now (text .entry)) start len) ⌝ }
 {
-    match octets::property_key(key) {
-        Key::Reserved => false,
-        Key::Run(n) => (0 < key.len()) & (key.len() <= n),
+    let key = octets::view(text, start as usize, len as usize);
+    if octets::is_reserved(key) {
+        return false;
     }
+    name_fits(text, start, len)
 }
 
 // Whether no byte is a CR or an LF and every byte is below 128. The loop has no branch, so that it becomes vector code.
@@ -74,9 +101,13 @@ fn lacks(value: &[u8], b: u8) -> bool
 }
 
 // What a value makes of its row. What is wrong is looked for only where something is.
-fn value_verdict(value: &[u8]) -> Verdict
-    ensures { λ r. ⌜ r ≡ verdict (only noBreak (now (value .entry))) (only ascii (now (value .entry))) ⌝ }
+fn value_verdict(text: &[u8], start: u32, len: u32) -> Verdict
+    ensures { λ r. ⌜ r ≡ verdict (only noBreak (viewed (now (text .entry)) start len)) (only ascii (viewed (now (text .entry)) start len)) ⌝ }
 {
+    if is_common(text, start, len) {
+        return Verdict::Fine;
+    }
+    let value = octets::view(text, start as usize, len as usize);
     if all_clean(value) {
         return Verdict::Fine;
     }
@@ -97,23 +128,23 @@ fn quotes_fit(value: &[u8]) -> bool
 }
 
 // What the value of a parameter, which is present, makes of its row.
-fn present_verdict(value: &[u8]) -> Verdict
-    ensures { λ r. ⌜ r ≡ verdict (presentFits (now (value .entry))) (only ascii (now (value .entry))) ⌝ }
+fn present_verdict(text: &[u8], start: u32, len: u32) -> Verdict
+    ensures { λ r. ⌜ r ≡ verdict (presentFits (viewed (now (text .entry)) start len)) (only ascii (viewed (now (text .entry)) start len)) ⌝ }
 {
+    let value = octets::view(text, start as usize, len as usize);
     if value.len() == 0 {
         return Verdict::Unwritable;
     }
     if !quotes_fit(value) {
         return Verdict::Unwritable;
     }
-    value_verdict(value)
+    value_verdict(text, start, len)
 }
 
 fn component_verdict(text: &[u8], row: ComponentRow) -> Verdict
     ensures { λ r. ⌜ r ≡ componentVerdict (now (text .entry)) row ⌝ }
 {
-    let name = octets::view(text, row.name_start as usize, row.name_len as usize);
-    if name_fits(name) {
+    if name_fits(text, row.name_start, row.name_len) {
         return Verdict::Fine;
     }
     Verdict::Unwritable
@@ -122,26 +153,22 @@ fn component_verdict(text: &[u8], row: ComponentRow) -> Verdict
 fn property_verdict(text: &[u8], row: PropertyRow) -> Verdict
     ensures { λ r. ⌜ r ≡ propertyVerdict (now (text .entry)) row ⌝ }
 {
-    let key = octets::view(text, row.key_start as usize, row.key_len as usize);
-    if !key_fits(key) {
+    if !key_fits(text, row.key_start, row.key_len) {
         return Verdict::Unwritable;
     }
-    let value = octets::view(text, row.value_start as usize, row.value_len as usize);
-    value_verdict(value)
+    value_verdict(text, row.value_start, row.value_len)
 }
 
 fn parameter_verdict(text: &[u8], row: ParameterRow) -> Verdict
     ensures { λ r. ⌜ r ≡ parameterVerdict (now (text .entry)) row ⌝ }
 {
-    let key = octets::view(text, row.key_start as usize, row.key_len as usize);
-    if !of_key_bytes(key) {
+    if !of_key_bytes(text, row.key_start, row.key_len) {
         return Verdict::Unwritable;
     }
     if row.present == 0 {
         return Verdict::Fine;
     }
-    let value = octets::view(text, row.value_start as usize, row.value_len as usize);
-    present_verdict(value)
+    present_verdict(text, row.value_start, row.value_len)
 }
 
 // The first component row that cannot be written.

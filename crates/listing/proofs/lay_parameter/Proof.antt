@@ -68,7 +68,7 @@ returns c =
     let key = viewed text (row .«key_start») (row .«key_len») in
     let w0 = start (a .at) (a .out .now) (parameterLine text row) in
     let w1 = more w0 (omega arith) (field (decimal (row .property)) space) (field key lf) (absent text row (c .before .before .before .before .if1 .taken)) (number-of-absent c .lay-number .ensures) in
-    end w1 (from-as (ap (λ (k : List ℕ). field k lf) (after-view (number-of-absent c) .view .ensures)) (c .before .before .lay-field .ensures))
+    end w1 (from-as (ap (λ (k : List ℕ). field k lf) (after-view (number-of-absent c) .view .ensures .0)) (c .before .before .lay-field .ensures))
 
 lay-field-requires-2 : tie.Need-lay-field-requires-2
 lay-field-requires-2 c κs = search needs
@@ -91,8 +91,8 @@ returns-2 c =
     let w1 = more w0 (omega arith) (field (decimal (row .property)) space) (field key equals ++ field value lf)
     (present text row (after-lay-field2 c .before .before .if1 .left)) (number-of-present c .lay-number .ensures) in
     let w2 = more w1 (omega arith) (field key equals) (field value lf) refl
-    (from-as (ap (λ (k : List ℕ). field k equals) (after-view (number-of-present c) .view .ensures)) (after-lay-field2 c .lay-field2 .ensures)) in
-    end w2 (from-as (ap (λ (k : List ℕ). field k lf) (number-of-present c .before .before .before .view2 .ensures)) (c .before .before .lay-field3 .ensures))
+    (from-as (ap (λ (k : List ℕ). field k equals) (after-view (number-of-present c) .view .ensures .0)) (after-lay-field2 c .lay-field2 .ensures)) in
+    end w2 (from-as (ap (λ (k : List ℕ). field k lf) (number-of-present c .before .before .before .view2 .ensures .0)) (c .before .before .lay-field3 .ensures))
 
 pub lay-parameter-spec : {M : Type 1} → statement M
 lay-parameter-spec =

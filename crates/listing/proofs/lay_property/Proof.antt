@@ -68,8 +68,8 @@ returns c =
     let value = viewed text (row .«value_start») (row .«value_len») in
     let w0 = start (a .at) (a .out .now) (propertyLine text row) in
     let w1 = more w0 (omega arith) (field (decimal (row .owner)) space) (field key space ++ field value lf) refl (after-lay-number c .lay-number .ensures) in
-    let w2 = more w1 (omega arith) (field key space) (field value lf) refl (from-as (ap (λ (k : List ℕ). field k space) (after-view c .view .ensures)) (after-lay-field c .lay-field .ensures)) in
-    end w2 (from-as (ap (λ (k : List ℕ). field k lf) (after-lay-number c .before .before .before .view2 .ensures)) (c .before .before .lay-field2 .ensures))
+    let w2 = more w1 (omega arith) (field key space) (field value lf) refl (from-as (ap (λ (k : List ℕ). field k space) (after-view c .view .ensures .0)) (after-lay-field c .lay-field .ensures)) in
+    end w2 (from-as (ap (λ (k : List ℕ). field k lf) (after-lay-number c .before .before .before .view2 .ensures .0)) (c .before .before .lay-field2 .ensures))
 
 pub lay-property-spec : {M : Type 1} → statement M
 lay-property-spec =

@@ -1,78 +1,58 @@
--- `octets::put`: the bytes stored so far, and those to come, are the bytes that fit.
-use Prim.Native.Nat.{ℕ, _≤_, _<_, _+_, _-_}
-use mathlib.Core.Path.{_≡_, refl, sym, ap, _∙_}
-use lib.ListN.{length, getD, drop}
-use lib.Seq.{sets, slice, slice-cons, slice-empty}
-use lib.ListN.{length-set, take}
-use native.Mathlib.Numerals.{add-one}
-use Rattle.octets.proofs.Laid.{store, all-stored}
-use native.Mathlib.Omega.{arith}
+-- `octets::put`: either way the bytes that fit are laid.
+use borrow.Author.Needs.{needs}
+use mathlib.Core.Path.{_∙_}
+use Rattle.octets.proofs.Laid.{fitting}
 use Rattle.octets.proofs.put.Statement.{statement}
 use Rattle.octets.proofs.put.Tie as tie
 
-abbrev Inv-loop : tie.InvT-loop
-Inv-loop bytes out₀ n i₀ out i = (i ≤ n) × ((length out ≡ length out₀) × (sets out i (slice i n bytes) ≡ sets out₀ 0 (take n bytes)))
-
-abbrev μ-loop : tie.MeasureT-loop
-μ-loop bytes out₀ n i₀ out i = n - i
-
-abbrev At : (tie.InvT-loop → tie.MeasureT-loop → Type 0) → Type 0
-At place = place Inv-loop μ-loop
-
 -- what the proofs look back to
-abbrev at-start : At tie.After-loop → At tie.Start
-at-start c = c .before .before .before .before .before
+abbrev after-least : tie.After-slice-known3 → tie.After-least
+after-least c = c .before .before .before .before .before .before
 
-least-requires : tie.Need-least-requires Inv-loop μ-loop
-least-requires c κs = tt
+least-requires : tie.Need-least-requires
+least-requires c κs = search needs
 
-loop-holds : tie.Need-loop-holds Inv-loop μ-loop
-loop-holds c = (omega arith, (refl, refl))
+put-each-requires : tie.Need-put-each-requires
+put-each-requires c κs = search needs
 
-shared-slice-read-out : tie.Need-shared-slice-read-out Inv-loop μ-loop
-shared-slice-read-out c = omega arith
+same-length : tie.Need-same-length
+same-length c = search needs
 
-slice-write-out : tie.Need-slice-write-out Inv-loop μ-loop
-slice-write-out c = omega arith
+returns : tie.Need-returns
+returns c = search needs
 
-add-i : tie.Need-add-i Inv-loop μ-loop
-add-i c = omega arith
+put-eights-requires : tie.Need-put-eights-requires
+put-eights-requires c κs = search needs
 
-loop-less : tie.Need-loop-less Inv-loop μ-loop
-loop-less c = omega arith
+same-length-2 : tie.Need-same-length-2
+same-length-2 c = search needs
 
-loop-again : tie.Need-loop-again Inv-loop μ-loop
-loop-again c =
-    let l = c .before .before in
-    let s = l .before .before .before .before .args in let i = l .loop .i in (
-      omega arith,
-      (
-        rw length-set (l .loop .inv .1 .0),
-        store (s .bytes .now) (l .loop .out) i (l .before .least .result) (c .before .loop-test .taken) (omega (arith, l .before .least .ensures))
-            ∙ l .loop .inv .1 .1,
-      ),
-    )
+returns-2 : tie.Need-returns-2
+returns-2 c =
+    let l = after-least c in
+    let a = l .before .before .before .args in
+    c .before .before .put-eights .ensures ∙ fitting (a .bytes .now) (a .out .now) (l .least .ensures)
 
-same-length : tie.Need-same-length Inv-loop μ-loop
-same-length c = c .before .loop .inv .1 .0
+put-each-requires-2 : tie.Need-put-each-requires-2
+put-each-requires-2 c κs = search needs
 
-returns : tie.Need-returns Inv-loop μ-loop
-returns c = let s = at-start c .args in
-    all-stored (s .bytes .now) (s .out .now) (c .before .loop .out) (c .before .loop .i) (c .before .before .least .result)
-    (c .before .before .least .ensures) (omega arith) (c .before .loop .inv .1 .1)
+same-length-3 : tie.Need-same-length-3
+same-length-3 c = search needs
+
+returns-3 : tie.Need-returns-3
+returns-3 c = search needs
 
 pub put-spec : {M : Type 1} → statement M
 put-spec =
     tie.close
     (tie.spec
-    Inv-loop
-    μ-loop
     least-requires
-    loop-holds
-    shared-slice-read-out
-    slice-write-out
-    add-i
-    loop-less
-    loop-again
+    put-each-requires
     same-length
-    returns)
+    returns
+    put-eights-requires
+    same-length-2
+    returns-2
+    put-each-requires-2
+    same-length-3
+    returns-3)

@@ -1,4 +1,4 @@
--- `octets::view`: inside it is the part, outside it is empty.
+-- `octets::view`: inside it is the part at its start, outside it is the empty part at the front. Assumes nothing.
 use mathlib.Core.Path.{refl}
 use native.Mathlib.Omega.{arith}
 use borrow.Author.Tests.{lt-leb, le-leb}
@@ -19,7 +19,10 @@ part-result-end : tie.Need-part-result-end
 part-result-end c = search needs
 
 returns : tie.Need-returns
-returns c = let s = c .before .before .args in rw (lt-leb (s .start + s .len) (length (s .text .now)) (omega arith))
+returns c =
+    let s = c .before .before .args in
+    let outside = lt-leb (s .start + s .len) (length (s .text .now)) (omega arith) in
+    (rw outside, rw outside)
 
 sub-if2 : tie.Need-sub-if2
 sub-if2 c = search needs
@@ -34,7 +37,10 @@ part-result-end-2 : tie.Need-part-result-end-2
 part-result-end-2 c = search needs
 
 returns-2 : tie.Need-returns-2
-returns-2 c = let s = c .before .before .before .args in rw (lt-leb (s .start + s .len) (length (s .text .now)) (omega arith))
+returns-2 c =
+    let s = c .before .before .before .args in
+    let outside = lt-leb (s .start + s .len) (length (s .text .now)) (omega arith) in
+    (rw outside, rw outside)
 
 add-end : tie.Need-add-end
 add-end c = search needs
@@ -49,7 +55,10 @@ part-result-end-3 : tie.Need-part-result-end-3
 part-result-end-3 c = search needs
 
 returns-3 : tie.Need-returns-3
-returns-3 c = let s = c .before .before .before .args in rw (le-leb (s .start + s .len) (length (s .text .now)) (omega arith), add-sub-cancel-left)
+returns-3 c =
+    let s = c .before .before .before .args in
+    let inside = le-leb (s .start + s .len) (length (s .text .now)) (omega arith) in
+    (rw (inside, add-sub-cancel-left), rw inside)
 
 pub view-spec : {M : Type 1} → statement M
 view-spec =

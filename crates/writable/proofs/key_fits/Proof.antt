@@ -1,28 +1,34 @@
--- `writable::key_fits`: by the key that the bytes are read as.
-use mathlib.Core.Path.{sym, _∙_}
+-- `writable::key_fits`: reserved, or as a name.
 use borrow.Author.Needs.{needs}
-use Rattle.writable.proofs.Laws.{reserved-key, run-key}
+use mathlib.Core.Path.{sym, ap, _∙_}
+use Rattle.octets.specs.Keys.{reserved}
+use Rattle.octets.specs.Views.{viewed}
+use Rattle.writable.proofs.Laws.{reserved-key, plain-key}
 use Rattle.writable.proofs.key_fits.Statement.{statement}
 use Rattle.writable.proofs.key_fits.Tie as tie
 
-property-key-requires : tie.Need-property-key-requires
-property-key-requires c κs = search needs
+view-requires : tie.Need-view-requires
+view-requires c κs = search needs
 
-enum-told : tie.Need-enum-told
-enum-told c = search needs
-
-enum-known-n : tie.Need-enum-known-n
-enum-known-n c = search needs
+is-reserved-requires : tie.Need-is-reserved-requires
+is-reserved-requires c κs = search needs
 
 returns : tie.Need-returns
 returns c =
-    let k = c .before .before in
-    reserved-key (k .before .before .args .key .now) (sym (k .property-key .ensures) ∙ c .enum-told .given .1)
+    let k = c .before in
+    let a = k .before .before .before .args in
+    reserved-key (viewed (a .text .now) (a .start) (a .len)) (sym (ap reserved (k .before .view .ensures .0)) ∙ (sym (k .is-reserved .ensures) ∙ c .if1 .taken))
+
+name-fits-requires : tie.Need-name-fits-requires
+name-fits-requires c κs = search needs
 
 returns-2 : tie.Need-returns-2
 returns-2 c =
-    let k = c .before .before .before in
-    run-key (k .before .before .args .key .now) (sym (k .property-key .ensures) ∙ c .before .n .given .1)
+    let k = c .before .before in
+    let a = k .before .before .before .args in
+    c .name-fits .ensures
+    ∙ plain-key (viewed (a .text .now) (a .start) (a .len)) (sym (ap reserved (k .before .view .ensures .0)) ∙ (sym (k .is-reserved .ensures) ∙ c .before .if1 .left))
 
 pub key-fits-spec : {M : Type 1} → statement M
-key-fits-spec = tie.close (tie.spec property-key-requires enum-told enum-known-n returns returns-2)
+key-fits-spec =
+    tie.close (tie.spec view-requires is-reserved-requires returns name-fits-requires returns-2)
