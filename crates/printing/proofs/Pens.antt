@@ -1,27 +1,29 @@
 -- Laws of a line that is laid piece by piece: pieces in turn, the parameters of a property in turn, and the CRLF behind it. Assumes nothing.
 use mathlib.Core.Path.{_≡_, refl, sym, _∙_}
-use mathlib.Core.Bool.{Bool, true, false}
+use mathlib.Core.Bool.{Bool, true, false, _&&_}
 use mathlib.Core.List.{List, [], _∷_, _++_, append-assoc, append-nil}
-use Prim.Native.Nat.{ℕ, _+_, _≤_, _<_, _/_}
+use Prim.Native.Nat.{ℕ, suc, _+_, _-_, _≤_, _<_, _/_}
+use native.Mathlib.Numerals.{add-one}
 use native.Mathlib.Omega.{arith}
-use lib.ListN.{length, drop}
-use borrow.Author.Tests.{eq-eqb, ne-eqb}
+use lib.ListN.{length, getD, drop}
+use lib.Seq.{drop-cons, drop-drop, take-add}
+use borrow.Author.Tests.{eq-eqb, ne-eqb, le-leb}
 use Rattle.octets.specs.Laid.{most, Lays}
 use Rattle.octets.specs.Bytes.{cr, lf, colon, semicolon}
 use Rattle.octets.specs.Views.{viewed}
 use Rattle.octets.proofs.Writing.{length-from, both, from-as, stays}
 use Rattle.folding.specs.Strict.{first, units, foldedUnits, leftAfter}
-use Rattle.folding.proofs.Strict.{units-append, fold-append, left-append}
+use Rattle.folding.proofs.Strict.{units-append, fold-append, left-append, fold-fits, left-fits}
 use Rattle.tables.specs.Rows.{parameterSize, parameterAt}
 use Rattle.tables.specs.Trees.{present, parameterOf}
-use Rattle.tables.specs.Fronts.{front, belongs}
+use Rattle.tables.specs.Fronts.{front, belongs, ownRun, ownParameters, ownProperty}
 use Rattle.tables.specs.Lent.{parametersIn}
 use Rattle.tables.specs.declared.PropertyRow.{PropertyRow}
 use Rattle.tables.specs.declared.ParameterRow.{ParameterRow}
 use Rattle.tables.proofs.Laws.{row-here, rows-end}
 use Rattle.tables.proofs.Fronts.{on, stop, ended, run-on, run-none}
 use Rattle.printing.specs.Lines.{closedLine, valueText, parameterText, parametersText, propertyLine}
-use Rattle.printing.specs.Pens.{Penned, ownRun, behindRun, ownParameters, printedProperty}
+use Rattle.printing.specs.Pens.{Penned, behindRun}
 use Rattle.printing.specs.declared.Pen.{Pen}
 
 -- two pieces in turn are one
@@ -34,6 +36,11 @@ then {pen} {mid} {next} {xs} {ys} p q h =
       left = q .left ∙ rw (units-append xs ys, left-append (pen .left) (units xs) (units ys), p .left);
       lays = from-as e (both (p .lays) (q .lays) h);
     }
+
+-- a piece that the physical line takes whole is laid as it is
+pub whole : {pen next : Pen} {piece old new : List ℕ} → length piece ≤ pen .left → next .left ≡ pen .left - length piece
+    → Lays (pen .at) piece old new (next .at) → Penned pen piece old new next
+whole {pen} {next} {piece} h e p = record { left = e ∙ sym (left-fits (pen .left) piece h); lays = from-as (sym (fold-fits (pen .left) piece h)) p }
 
 -- no piece
 pub nothing : (pen : Pen) (old : List ℕ) → pen .at ≤ most → Penned pen [] old old pen
@@ -51,9 +58,37 @@ closed p q h = both (p .lays) q h
 -- a line of its parts: key, parameters, and the value behind a colon
 pub parts : (text : List ℕ) (p : PropertyRow) (number first : ℕ) (rows : List ParameterRow) {key value : List ℕ}
     → key ≡ viewed text (p .«key_start») (p .«key_len») → value ≡ viewed text (p .«value_start») (p .«value_len»)
-    → (key ++ parametersText (ownParameters text number first rows)) ++ colon ∷ value ≡ propertyLine (printedProperty text p number first rows)
+    → (key ++ parametersText (ownParameters text number first rows)) ++ colon ∷ value ≡ propertyLine (ownProperty text p number first rows)
 parts text p number first rows e f =
-    let q = printedProperty text p number first rows in rw (e, f) (append-assoc (q .key) (parametersText (q .parameters)) (colon ∷ q .value))
+    let q = ownProperty text p number first rows in rw (e, f) (append-assoc (q .key) (parametersText (q .parameters)) (colon ∷ q .value))
+
+-- and one without parameters
+pub bare : (text : List ℕ) (p : PropertyRow) (number first : ℕ) (rows : List ParameterRow) {line : List ℕ}
+    → front (belongs number) (drop first rows) ≡ 0 → line ≡ viewed text (p .«key_start») (p .«key_len») ++ colon ∷ viewed text (p .«value_start») (p .«value_len»)
+    → line ≡ propertyLine (ownProperty text p number first rows)
+unfolding parametersText
+bare text p number first rows none e = e ∙ rw (run-none (belongs number) (drop first rows) none)
+
+-- two tests at once
+pub both-true : (a b : Bool) → a && b ≡ true → (a ≡ true) × (b ≡ true)
+both-true true b e = (refl, e)
+both-true false b e = let z : _≡_ {A = ℕ} 0 1 = cc in absurd (omega arith)
+
+-- two parts of a text that stand one behind the other, with a byte between them, are one part
+pub view-joins : (text : List ℕ) (start len more b : ℕ) → start + len + 1 + more ≤ length text → getD text (start + len) 0 ≡ b
+    → viewed text start (len + 1 + more) ≡ viewed text start len ++ b ∷ viewed text (start + len + 1) more
+view-joins text start len more b h e =
+    let n : len + 1 + more ≡ len + suc more = omega arith in
+    let here : drop (start + len) text ≡ b ∷ drop (start + len + 1) text = rw (drop-cons text (start + len) 0 (omega arith), e, add-one) in
+    rw (
+      le-leb (start + (len + 1 + more)) (length text) (omega arith),
+      le-leb (start + len) (length text) (omega arith),
+      le-leb (start + len + 1 + more) (length text) h,
+      n,
+      take-add len (suc more) (drop start text),
+      drop-drop len start text,
+      here,
+    )
 
 -- ---- one parameter
 

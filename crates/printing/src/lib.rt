@@ -1,11 +1,17 @@
 // One line of a calendar, folded strictly and closed by CRLF, laid over the front of what is left of the output.
 ghost use mathlib.Core.Path.{_≡_};
-ghost use mathlib.Core.List.{_∷_, _++_};
+ghost use mathlib.Core.Bool.{true, false};
+ghost use mathlib.Core.List.{[], _∷_, _++_};
+ghost use Prim.Native.Nat.{_+_};
+ghost use lib.ListN.{drop};
+ghost use Rattle.octets.specs.Bytes.{cr, lf, colon};
 ghost use Rattle.octets.specs.Laid.{Lays};
+ghost use Rattle.octets.specs.Views.{viewed};
 ghost use Rattle.tables.specs.Trees.{present, parameterOf};
 ghost use Rattle.tables.specs.Lent.{parametersIn};
+ghost use Rattle.tables.specs.Fronts.{front, belongs, ownParameters};
 ghost use Rattle.printing.specs.Lines.{closedLine, valueText, parameterText, parametersText};
-ghost use Rattle.printing.specs.Pens.{Penned, behindRun, ownParameters, printedLine};
+ghost use Rattle.printing.specs.Pens.{Penned, behindRun, printedLine};
 use folding::Column;
 use tables::ParameterRow;
 use tables::PropertyRow;
@@ -36,10 +42,16 @@ struct Listed {
     next: usize,
 }
 
-// Lays a piece of a line, folded strictly, from the pen on.
+// Lays a piece of a line, folded strictly, from the pen on. A piece that the physical line takes whole is laid as it is.
 fn lay_piece(pen: Pen, piece: &[u8], out: &mut [u8]) -> Pen
     ensures { λ r. ⌜ Penned pen (now (piece .entry)) (now (out .entry)) (now (out .exit)) r ⌝ }
 {
+    if piece.len() <= pen.left {
+        return Pen {
+            left: pen.left - piece.len(),
+            at: octets::lay(piece, out, pen.at),
+        };
+    }
     let from = octets::least(pen.at, out.len());
     let column = Column { left: pen.left };
     let folded = folding::fold_piece(column, piece, &mut out[from..]);
@@ -49,12 +61,25 @@ fn lay_piece(pen: Pen, piece: &[u8], out: &mut [u8]) -> Pen
     }
 }
 
+// Lays one byte in the same way.
+fn lay_one(pen: Pen, b: u8, out: &mut [u8]) -> Pen
+    ensures { λ r. ⌜ Penned pen (b ∷ []) (now (out .entry)) (now (out .exit)) r ⌝ }
+{
+    if 0 < pen.left {
+        return Pen {
+            left: pen.left - 1,
+            at: octets::lay_byte(b, out, pen.at),
+        };
+    }
+    let one = [b];
+    lay_piece(pen, &one, out)
+}
+
 // Lays a byte and the piece behind it.
 fn lay_after(pen: Pen, mark: u8, piece: &[u8], out: &mut [u8]) -> Pen
     ensures { λ r. ⌜ Penned pen (mark ∷ now (piece .entry)) (now (out .entry)) (now (out .exit)) r ⌝ }
 {
-    let first = [mark];
-    let marked = lay_piece(pen, &first, out);
+    let marked = lay_one(pen, mark, out);
     lay_piece(marked, piece, out)
 }
 
@@ -109,13 +134,57 @@ fn lay_parameters(
     Listed { pen, next }
 }
 
+// Lays CRLF.
+fn lay_end(out: &mut [u8], at: usize) -> usize
+    ensures { λ r. ⌜ Lays at (cr ∷ lf ∷ []) (now (out .entry)) (now (out .exit)) r ⌝ }
+{
+    let next = octets::lay_byte(b'\r', out, at);
+    octets::lay_byte(b'\n', out, next)
+}
+
 // Lays the line that opens or closes a component: BEGIN or END with its colon, and the name.
 pub fn print_mark(mark: &[u8], name: &[u8], out: &mut [u8]) -> usize
     ensures { λ r. ⌜ Lays 0 (closedLine (now (mark .entry) ++ now (name .entry))) (now (out .entry)) (now (out .exit)) r ⌝ }
 {
     let marked = lay_piece(Pen::START, mark, out);
     let end = lay_piece(marked, name, out);
-    octets::lay(b"\r\n", out, end.at)
+    lay_end(out, end.at)
+}
+
+// Whether the parameter row `first` is one of the property's own: where it is not, the property has none behind it.
+fn has_parameters(parameters: &[u32], first: usize, number: usize) -> bool
+    ensures { λ r. ⌜ (r ≡ false → front (belongs number) (drop first (parametersIn (now (parameters .entry)))) ≡ 0) ⌝ }
+{
+    if tables::parameter_rows(parameters) <= first {
+        return false;
+    }
+    tables::property_of(parameters, first) as usize == number
+}
+
+// Whether key, colon and value stand in the text one behind the other, as a reading leaves them.
+fn stands_whole(text: &[u8], p: PropertyRow) -> bool
+    ensures { λ r. ⌜ (r ≡ true → viewed (now (text .entry)) (p .«key_start») (p .«key_len» + 1 + p .«value_len»)
+        ≡ viewed (now (text .entry)) (p .«key_start») (p .«key_len») ++ colon ∷ viewed (now (text .entry)) (p .«value_start») (p .«value_len»)) ⌝ }
+{
+    let colon = p.key_start as usize + p.key_len as usize;
+    let value = p.value_start as usize;
+    if value != colon + 1 {
+        return false;
+    }
+    if text.len() < value + p.value_len as usize {
+        return false;
+    }
+    text[colon] == b':'
+}
+
+// Lays the line of a property that stands in the text from its key to its value.
+fn print_whole(text: &[u8], p: PropertyRow, out: &mut [u8]) -> usize
+    ensures { λ r. ⌜ Lays 0 (closedLine (viewed (now (text .entry)) (p .«key_start») (p .«key_len» + 1 + p .«value_len»))) (now (out .entry)) (now (out .exit)) r ⌝ }
+{
+    let length = p.key_len as usize + 1 + p.value_len as usize;
+    let line = octets::view(text, p.key_start as usize, length);
+    let end = lay_piece(Pen::START, line, out);
+    lay_end(out, end.at)
 }
 
 // Lays the line of a property row: `number` is its row, and `first` the first parameter row that may be its own.
@@ -130,13 +199,19 @@ pub fn print_property(
     ensures { λ r. ⌜ Lays 0 (printedLine (now (text .entry)) p number first (parametersIn (now (parameters .entry)))) (now (out .entry)) (now (out .exit)) (r .length) ⌝ }
     ensures { λ r. ⌜ r .next ≡ behindRun number first (parametersIn (now (parameters .entry))) ⌝ }
 {
+    if !has_parameters(parameters, first, number) & stands_whole(text, p) {
+        return Printed {
+            length: print_whole(text, p, out),
+            next: first,
+        };
+    }
     let key = octets::view(text, p.key_start as usize, p.key_len as usize);
     let value = octets::view(text, p.value_start as usize, p.value_len as usize);
     let named = lay_piece(Pen::START, key, out);
     let listed = lay_parameters(named, text, parameters, number, first, out);
     let end = lay_after(listed.pen, b':', value, out);
     Printed {
-        length: octets::lay(b"\r\n", out, end.at),
+        length: lay_end(out, end.at),
         next: listed.next,
     }
 }

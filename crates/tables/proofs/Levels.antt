@@ -1,9 +1,9 @@
--- The level of 64 is enough for tables that meet the table rule: no tree goes deeper, so that none is cut. Assumes nothing.
+-- The level of 64 is enough for tables that meet the table rule: no tree goes deeper, so that none is cut, nor is that of a row. Assumes nothing.
 use mathlib.Core.Path.{_≡_, refl, sym, ap, _∙_}
 use mathlib.Core.Bool.{Bool, true, false}
 use mathlib.Core.List.{List, [], _∷_}
-use Prim.Native.Nat.{ℕ, zero, suc, _+_, _<_, zero-le, suc-le-suc}
-use native.Mathlib.Nat.{zero-add}
+use Prim.Native.Nat.{ℕ, zero, suc, _+_, _≤_, _<_, zero-le, suc-le-suc}
+use native.Mathlib.Nat.{zero-add, add-zero}
 use native.Mathlib.Omega.{arith}
 use lib.ListN.{length, getD}
 use lib.Dec.{eqb}
@@ -12,7 +12,7 @@ use Rattle.octets.specs.Choice.{pick}
 use Rattle.octets.specs.Answers.{deepest}
 use Rattle.tables.specs.Rows.{noParent, componentAt}
 use Rattle.tables.specs.TableRule.{brokenComponent}
-use Rattle.tables.specs.Trees.{Trees, none, gather, childrenOf, grown, forest, treesOf}
+use Rattle.tables.specs.Trees.{Trees, none, gather, grown, forest, treeAt, treesOf}
 use Rattle.tables.specs.declared.ComponentRow.{ComponentRow}
 use Rattle.tables.specs.declared.PropertyRow.{PropertyRow}
 use Rattle.tables.specs.declared.ParameterRow.{ParameterRow}
@@ -57,6 +57,16 @@ module _ (text : List ℕ) (components : List ComponentRow) (properties : List P
       let u = rows-nested components textLength fits child l .under (λ z. ne (sym o ∙ z)) in
       omega (arith, u .deeper, ap (depthOf components) o)
 
+  -- the tree of a row, where one level more changes nothing below it
+  grown-same : (level row : ℕ) (c : ComponentRow) (rest : Trees) → ((row ≡ noParent → ⊥) → forestAt level row ≡ forestAt (suc level) row)
+      → grown text components properties parameters (forestAt level) row c rest ≡ grown text components properties parameters (forestAt (suc level)) row c rest
+  grown-same level row c rest same = go (eqb row noParent) refl
+    where
+      go : (t : Bool) → eqb row noParent ≡ t
+          → grown text components properties parameters (forestAt level) row c rest ≡ grown text components properties parameters (forestAt (suc level)) row c rest
+      go true t = rw t
+      go false t = rw (t, same (eqb-false row noParent t))
+
   one-more : (level parent : ℕ) → Enough level parent → forestAt level parent ≡ forestAt (suc level) parent
   unfolding forest
   one-more zero parent enough =
@@ -65,13 +75,8 @@ module _ (text : List ℕ) (components : List ComponentRow) (properties : List P
   one-more (suc level) parent enough =
       gather-same (λ (c : ComponentRow). c .parent) (grown text components properties parameters (forestAt level)) (grown text components properties parameters (forestAt (suc level)))
       none parent 0 components
-      (λ i d h o rest. rw zero-add (go i (getD components i d) rest (eqb i noParent) refl
+      (λ i d h o rest. rw zero-add (grown-same level i (getD components i d) rest
       (λ ne. one-more level i (below level i h (enough i h (rw (owned i d h) at o)) ne))))
-    where
-      go : (row : ℕ) (c : ComponentRow) (rest : Trees) (t : Bool) → eqb row noParent ≡ t → ((row ≡ noParent → ⊥) → forestAt level row ≡ forestAt (suc level) row)
-          → grown text components properties parameters (forestAt level) row c rest ≡ grown text components properties parameters (forestAt (suc level)) row c rest
-      go row c rest true t same = rw t
-      go row c rest false t same = rw (t, same (eqb-false row noParent t))
 
   -- a level above 64 adds nothing
   pub enough : (more : ℕ) → forestAt (deepest + more) noParent ≡ treesOf text components properties parameters
@@ -79,3 +84,12 @@ module _ (text : List ℕ) (components : List ComponentRow) (properties : List P
   enough (suc more) =
       let e : deepest + suc more ≡ suc (deepest + more) = omega arith in
       rw e (sym (one-more (deepest + more) noParent (λ row h o. omega (arith, rows-nested components textLength fits row h .some))) ∙ enough more)
+
+  -- nor does a level that is more than enough below a row: its tree is the same with every level that is enough
+  pub tree-enough : (level more row : ℕ) → row < length components → deepest ≤ depthOf components row + level
+      → treeAt text components properties parameters (level + more) row ≡ treeAt text components properties parameters level row
+  tree-enough level zero row h e = ap (λ (n : ℕ). treeAt text components properties parameters n row) (add-zero level)
+  tree-enough level (suc more) row h e =
+      let f : level + suc more ≡ suc (level + more) = omega arith in
+      rw f (sym (grown-same (level + more) row (componentOf components row) none (λ ne. one-more (level + more) row (below (level + more) row h (omega arith) ne)))
+      ∙ tree-enough level more row h e)

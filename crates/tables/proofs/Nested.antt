@@ -12,19 +12,12 @@ use lib.Dec.{eqb, leb, ltb}
 use borrow.Author.Tests.{eqb-true, eqb-false, leb-true, ltb-true, ltb-false, eq-eqb, ne-eqb}
 use Rattle.octets.specs.Choice.{pick}
 use Rattle.octets.specs.Answers.{deepest}
+use Rattle.octets.proofs.Bools.{both}
 use Rattle.tables.specs.Rows.{noParent, componentAt}
 use Rattle.tables.specs.TableRule.{Opened, inside, outFrom, ancestors, some, parentFits, parentDepth, depthFits, componentFits, opensAfter, brokenComponent}
 use Rattle.tables.specs.declared.ComponentRow.{ComponentRow}
 use Rattle.tables.specs.declared.Found.the-variants.{Nothing}
 use Rattle.tables.proofs.Rule.{first-fits}
-
-and-left : (a b : Bool) → a && b ≡ true → a ≡ true
-and-left true b e = refl
-and-left false b e = e
-
-and-right : (a b : Bool) → a && b ≡ true → b ≡ true
-and-right true b e = e
-and-right false b e = cc
 
 -- an element that is there is read alike whatever is read past the end
 pub either-default : {A : Type 0} (xs : List A) (i : ℕ) (d d′ : A) → i < length xs → getD xs i d ≡ getD xs i d′
@@ -112,10 +105,10 @@ module _ (components : List ComponentRow) where
       c = componentOf components i
 
       rest : parentFits opens c && depthFits opens c ≡ true
-      rest = and-right (inside textLength (c .«name_start») (c .«name_len»)) _ fits
+      rest = both (inside textLength (c .«name_start») (c .«name_len»)) _ fits .1
 
       depths : depthFits opens c ≡ true
-      depths = and-right (parentFits opens c) (depthFits opens c) rest
+      depths = both (parentFits opens c) (depthFits opens c) rest .1
 
       around : Chain i (ancestors opens c)
       around = go (eqb (c .parent) noParent)
@@ -126,7 +119,7 @@ module _ (components : List ComponentRow) where
 
       depth-is : c .depth ≡ length (ancestors opens c) + 1
       depth-is =
-          let e = eqb-true (c .depth) (parentDepth (ancestors opens c) + 1) (and-left _ _ depths) in
+          let e = eqb-true (c .depth) (parentDepth (ancestors opens c) + 1) (both _ _ depths .0) in
           omega (arith, chain-depth around)
 
       after : Chain (i + 1) (opensAfter i opens c)
@@ -138,7 +131,7 @@ module _ (components : List ComponentRow) where
       nested =
           record {
             some = omega (arith, depth-is);
-            bounded = leb-true (c .depth) deepest (and-right (eqb (c .depth) (parentDepth (ancestors opens c) + 1)) (leb (c .depth) deepest) depths);
+            bounded = leb-true (c .depth) deepest (both (eqb (c .depth) (parentDepth (ancestors opens c) + 1)) (leb (c .depth) deepest) depths .1);
             top = λ e. depth-is ∙ rw (eqb-is e);
             under = λ ne. found ne (parent-of (c .parent) chain (listed ne));
           }
@@ -147,7 +140,7 @@ module _ (components : List ComponentRow) where
           eqb-is e = eq-eqb (c .parent) noParent e
 
           listed : (c .parent ≡ noParent → ⊥) → some (outFrom (c .parent) opens) ≡ true
-          listed ne = (rw (ne-eqb (c .parent) noParent ne) at (and-left (parentFits opens c) (depthFits opens c) rest))
+          listed ne = (rw (ne-eqb (c .parent) noParent ne) at (both (parentFits opens c) (depthFits opens c) rest .0))
 
           found : (c .parent ≡ noParent → ⊥) → Parent i (c .parent) opens → Under i (c .parent)
           found ne p =

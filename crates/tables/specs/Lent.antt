@@ -2,11 +2,12 @@
 -- rule, and the trees that they stand for.
 -- Assumes nothing.
 use Prim.Native.Nat.{ℕ}
-use mathlib.Core.List.{List}
-use lib.ListN.{length}
+use mathlib.Core.List.{List, []}
+use lib.ListN.{length, getD}
+use Rattle.octets.specs.Views.{viewed}
 use Rattle.tables.specs.Rows.{componentSize, propertySize, parameterSize, componentAt, propertyAt, parameterAt, rowsOf}
 use Rattle.tables.specs.TableRule.{broken}
-use Rattle.tables.specs.Trees.{Trees, treesOf}
+use Rattle.tables.specs.Trees.{Trees, treeAt, treesOf}
 use Rattle.tables.specs.declared.ComponentRow.{ComponentRow}
 use Rattle.tables.specs.declared.PropertyRow.{PropertyRow}
 use Rattle.tables.specs.declared.ParameterRow.{ParameterRow}
@@ -40,3 +41,11 @@ brokenIn b = broken (length (b .text)) (componentsIn (b .components)) (propertie
 -- "whole tables stand for the list of their top trees"
 abbrev pub treesIn : Lent → Trees
 treesIn b = treesOf (b .text) (componentsIn (b .components)) (propertiesIn (b .properties)) (parametersIn (b .parameters))
+
+-- the tree of a row, its children as deep as the level allows
+abbrev pub treeIn : Lent → ℕ → ℕ → Trees
+treeIn b level row = treeAt (b .text) (componentsIn (b .components)) (propertiesIn (b .properties)) (parametersIn (b .parameters)) level row
+
+-- the name of a row
+abbrev pub nameIn : List ℕ → List ComponentRow → ℕ → List ℕ
+nameIn text components row = viewed text (getD components row (componentAt [] 0) .«name_start») (getD components row (componentAt [] 0) .«name_len»)

@@ -3,3 +3,4 @@ pub mod TableRule
 pub mod Trees
 pub mod Lent
 pub mod Fronts
+pub mod Sizes

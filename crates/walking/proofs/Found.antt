@@ -10,6 +10,7 @@ use lib.Seq.{getD-take, getD-drop, length-take-le}
 use lib.Dec.{eqb, leb, ltb}
 use borrow.Author.Tests.{ltb-true, ltb-false, leb-true, eqb-true, eqb-false, ne-eqb}
 use Rattle.octets.specs.Choice.{pick}
+use Rattle.octets.proofs.Bools.{both}
 use Rattle.tables.specs.Fronts.{front, belongs}
 use Rattle.tables.specs.TableRule.{inside, risingIn, parameterFits, brokenParameter}
 use Rattle.tables.specs.Trees.{Parameter, gather, parameterOf, parametersOf}
@@ -25,7 +26,7 @@ use Rattle.walking.specs.Walk.{heldBefore, Holds}
 
 -- rows of others before n, and from n on, may be left out
 module _ {A R : Type 0} (ownerOf : A → ℕ) (before : ℕ → A → R → R) (end : R) (owner : ℕ) (xs : List A) (n : ℕ) where
-  from-first : n ≤ length xs → ((i : ℕ) (d : A) → i < n → ownerOf (getD xs i d) ≡ owner → ⊥)
+  pub from-first : n ≤ length xs → ((i : ℕ) (d : A) → i < n → ownerOf (getD xs i d) ≡ owner → ⊥)
       → gather ownerOf before end owner 0 xs ≡ gather ownerOf before end owner n (drop n xs)
   from-first h other =
       let size = length-take-le n xs h in
@@ -59,10 +60,6 @@ in-window before end properties {row = row} {w = w} h =
 data Rising : ℕ → List ParameterRow → Type 0 where
   no-row : {seen : ℕ} → Rising seen []
   row : {seen : ℕ} {q : ParameterRow} {qs : List ParameterRow} → seen ≤ q .property → Rising (q .property) qs → Rising seen (q ∷ qs)
-
-both : (a b : Bool) → a && b ≡ true → (a ≡ true) × (b ≡ true)
-both true b e = (refl, e)
-both false b e = (cc, cc)
 
 -- by the table rule they are
 rising : (textLength properties at seen : ℕ) (qs : List ParameterRow) → brokenParameter textLength properties at seen qs ≡ Nothing → Rising seen qs

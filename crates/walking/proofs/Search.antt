@@ -31,13 +31,29 @@ module _ {A : Type 0} (size : ℕ) (at : List ℕ → ℕ → A) (class : A → 
 pub depth-there : (table : List ℕ) (row : ℕ) → row < length table / componentSize → componentAt table row .depth ≡ depthAt (componentsIn table) row
 depth-there table row h = ap (λ (c : ComponentRow). c .depth) (sym (getD-tabulate (length table / componentSize) (componentAt table) row (componentAt [] 0) h))
 
--- the count of the rows of a class from one row up to another, one row at a time
+-- only the rows before `last` count
 module _ {A : Type 0} (size : ℕ) (at : List ℕ → ℕ → A) (class : A → Bool) (table : List ℕ) (last : ℕ) where
-  abbrev pub count : ℕ → ℕ
-  count i = tally class (take (last - i) (drop i (rowsOf size at table)))
-
   one : (i : ℕ) → i < last → i < length table / size → take (last - i) (drop i (rowsOf size at table)) ≡ at table i ∷ take (last - (i + 1)) (drop (i + 1) (rowsOf size at table))
   one i h l = let e : last - i ≡ suc (last - (i + 1)) = omega arith in rw (row-here size at table i l, e)
+
+  -- where a search ends that starts at row i
+  abbrev pub next : ℕ → ℕ
+  next i = i + front class (take (last - i) (drop i (rowsOf size at table)))
+
+  pub next-on : (i : ℕ) → i < last → i < length table / size → class (at table i) ≡ true → next (i + 1) ≡ next i
+  next-on i h l t = omega (arith, on class _ _ (at table i) (one i h l) t)
+
+  pub next-here : (i : ℕ) → i < last → i < length table / size → class (at table i) ≡ false → next i ≡ i
+  next-here i h l t = omega (arith, stop class _ _ (at table i) (one i h l) t)
+
+  pub next-none : (i : ℕ) → last ≤ i → next i ≡ i
+  next-none i h =
+      let e : last - i ≡ 0 = omega arith in
+      omega (arith, ended class (take (last - i) (drop i (rowsOf size at table))) (rw e))
+
+  -- how many rows there are of the class, one row at a time
+  abbrev pub count : ℕ → ℕ
+  count i = tally class (take (last - i) (drop i (rowsOf size at table)))
 
   pub counts : (i : ℕ) → i < last → i < length table / size → class (at table i) ≡ true → count i ≡ suc (count (i + 1))
   unfolding tally

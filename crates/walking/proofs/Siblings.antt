@@ -27,6 +27,12 @@ module _ (components : List ComponentRow) where
   abbrev pub rowsUpTo : ℕ → ℕ → List ComponentRow
   rowsUpTo from to = take (to - from) (drop from components)
 
+  -- the trees of those of them that have a parent, their children as deep as the level allows
+  abbrev pub siblingTrees : List ℕ → List PropertyRow → List ParameterRow → ℕ → ℕ → ℕ → ℕ → Trees
+  siblingTrees text properties parameters level parent from to =
+      gather (λ (c : ComponentRow). c .parent) (grown text components properties parameters (forest text components properties parameters level))
+      none parent from (rowsUpTo from to)
+
   -- ---- the subtree of a row
 
   pub end-later : (row : ℕ) → row < endOf components row
@@ -277,24 +283,20 @@ module _ (components : List ComponentRow) where
     -- ---- trees
 
     module _ (text : List ℕ) (properties : List PropertyRow) (parameters : List ParameterRow) (level : ℕ) where
-      -- the trees of the rows from `from` up to `to` that have a parent, their children as deep as the level allows
-      abbrev pub siblingTrees : ℕ → ℕ → ℕ → Trees
-      siblingTrees parent from to =
-          gather (λ (c : ComponentRow). c .parent) (grown text components properties parameters (forest text components properties parameters level))
-          none parent from (rowsUpTo from to)
-
       pub children-trees : (row : ℕ) → row < length components
           → childrenOf text components properties parameters (forest text components properties parameters (suc level)) row
-          ≡ siblingTrees row (row + 1) (endOf components row)
+          ≡ siblingTrees text properties parameters level row (row + 1) (endOf components row)
       unfolding forest
       children-trees row h = go (eqb row noParent) refl
         where
           go : (t : Bool) → eqb row noParent ≡ t
-              → pick t none (forest text components properties parameters (suc level) row) ≡ siblingTrees row (row + 1) (endOf components row)
+              → pick t none (forest text components properties parameters (suc level) row)
+              ≡ siblingTrees text properties parameters level row (row + 1) (endOf components row)
           go true t = none-inside row h (grown text components properties parameters (forest text components properties parameters level)) none (eqb-true row noParent t)
           go false t = all-inside row h (grown text components properties parameters (forest text components properties parameters level)) none (eqb-false row noParent t)
 
-      pub top-trees : forest text components properties parameters (suc level) noParent ≡ siblingTrees noParent 0 (length components)
+      pub top-trees : forest text components properties parameters (suc level) noParent
+          ≡ siblingTrees text properties parameters level noParent 0 (length components)
       unfolding forest
       top-trees =
           let e : length components - 0 ≡ length components = omega arith in

@@ -5,8 +5,9 @@ use mathlib.Core.List.{List, [], _∷_, _++_}
 use Prim.Native.Nat.{ℕ, zero, suc, _+_, _≤_, _<_, zero-le, suc-le-suc}
 use native.Mathlib.Nat.{not-suc-le-zero, le-of-suc-le-suc}
 use native.Mathlib.Omega.{arith}
-use lib.ListN.{length, getD}
+use lib.ListN.{length, getD, take}
 use Rattle.octets.specs.Choice.{pick}
+use Rattle.tables.specs.Fronts.{front}
 use Rattle.walking.specs.Walk.{tally}
 
 module _ {A : Type 0} (class : A → Bool) where
@@ -49,3 +50,25 @@ module _ {A : Type 0} (class : A → Bool) where
   unfolding tally
   all [] same = refl
   all (x ∷ xs) same = rw (same 0 x (suc-le-suc zero-le)) (ap suc (all xs (λ i d h. same (suc i) d (suc-le-suc h))))
+
+-- of the rows of a class at the front of a list all are of the class
+pub front-all : {A : Type 0} (class : A → Bool) (xs : List A) → tally class (take (front class xs) xs) ≡ front class xs
+unfolding tally front
+front-all class [] = refl
+front-all class (x ∷ xs) = go (class x) refl (front-all class xs)
+  where
+    go : (t : Bool) → class x ≡ t → tally class (take (front class xs) xs) ≡ front class xs
+        → tally class (take (pick t (suc (front class xs)) 0) (x ∷ xs)) ≡ pick t (suc (front class xs)) 0
+    go true t e = rw (t, e)
+    go false t e = refl
+
+-- and none is of a class that has no row in common with it
+pub front-none : {A : Type 0} (class other : A → Bool) → ((x : A) → class x ≡ true → other x ≡ false) → (xs : List A)
+    → tally other (take (front class xs) xs) ≡ 0
+unfolding tally front
+front-none class other apart [] = refl
+front-none class other apart (x ∷ xs) = go (class x) refl (front-none class other apart xs)
+  where
+    go : (t : Bool) → class x ≡ t → tally other (take (front class xs) xs) ≡ 0 → tally other (take (pick t (suc (front class xs)) 0) (x ∷ xs)) ≡ 0
+    go true t e = rw (apart x t, e)
+    go false t e = refl

@@ -39,7 +39,7 @@ module _ (components : List ComponentRow) (properties : List PropertyRow) where
       omega (arith, within (ownedBefore row) properties, within (ownedWithin row (endOf components row)) rest, length-drop (windowFirst properties row) properties)
 
   -- the rows before the window, in it and behind it
-  three : (class : PropertyRow → Bool) (row : ℕ) → tally class properties
+  pub three : (class : PropertyRow → Bool) (row : ℕ) → tally class properties
       ≡ tally class (take (windowFirst properties row) properties) + (tally class (windowRows components properties row) + tally class (drop (windowLast row) properties))
   three class row =
       let f = windowFirst properties row in

@@ -1,9 +1,9 @@
 -- Where the rows of a component stand, so that they are found without a search of all rows.
 -- Serves laws and inner contracts: what the rows are is said in `tables` (Trees), by a plain search.
 -- Assumes nothing.
-use Prim.Native.Nat.{ℕ, zero, suc, _+_, _-_, _≤_, _<_}
+use Prim.Native.Nat.{ℕ, zero, suc, _+_, _-_, _/_, _≤_, _<_}
 use mathlib.Core.Path.{_≡_}
-use mathlib.Core.Bool.{Bool, _&&_}
+use mathlib.Core.Bool.{Bool, not, _&&_}
 use mathlib.Core.List.{List, [], _∷_}
 use lib.ListN.{length, getD, take, drop}
 use lib.Dec.{eqb, leb, ltb}
@@ -36,9 +36,16 @@ ownedWithin row end p = leb row (p .owner) && ltb (p .owner) end
 abbrev pub ownedBy : ℕ → PropertyRow → Bool
 ownedBy row p = eqb (p .owner) row
 
+abbrev pub ownedByOther : ℕ → PropertyRow → Bool
+ownedByOther row p = not (ownedBy row p)
+
 -- a parameter of an earlier property
 abbrev pub heldBefore : ℕ → ParameterRow → Bool
 heldBefore property p = ltb (p .property) property
+
+-- a row that a table has, and that is of a class
+abbrev pub stands : {A : Type 0} → ℕ → (List ℕ → ℕ → A) → (A → Bool) → List ℕ → ℕ → Bool
+stands size at class table i = ltb i (length table / size) && class (at table i)
 
 -- the window of a component: behind the properties of earlier rows, those of its subtree, as far as they go
 abbrev pub windowFirst : List PropertyRow → ℕ → ℕ

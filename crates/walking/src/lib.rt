@@ -3,10 +3,12 @@ ghost use mathlib.Core.Path.{_≡_};
 ghost use mathlib.Core.Bool.{true};
 ghost use Prim.Native.Nat.{_+_, _-_, _≤_, _<_, _/_};
 ghost use lib.ListN.{length, take, drop};
-ghost use Rattle.tables.specs.Rows.{componentSize, propertySize};
+ghost use lib.Dec.{eqb};
+ghost use Rattle.octets.specs.Choice.{pick};
+ghost use Rattle.tables.specs.Rows.{componentSize, propertySize, componentAt, propertyAt};
 ghost use Rattle.tables.specs.Lent.{componentsIn, propertiesIn, parametersIn};
-ghost use Rattle.tables.specs.Fronts.{front};
-ghost use Rattle.walking.specs.Walk.{endOf, ownedBefore, ownedWithin, ownedBy, heldBefore, tally, inOrder, Reached, Holds};
+ghost use Rattle.tables.specs.Fronts.{front, belongs};
+ghost use Rattle.walking.specs.Walk.{deeper, endOf, ownedBefore, ownedWithin, ownedBy, ownedByOther, heldBefore, tally, inOrder, stands, Reached, Holds};
 
 // How far a walk through the component rows has come in the two other tables.
 pub struct Cursor {
@@ -41,7 +43,7 @@ pub fn end_of(components: &[u32], row: usize) -> usize
 }
 
 // The first property from `from` on that belongs to no earlier component.
-fn first_from(properties: &[u32], from: usize, row: usize) -> usize
+pub fn first_from(properties: &[u32], from: usize, row: usize) -> usize
     ensures { λ r. ⌜ r ≡ from + front (ownedBefore row) (drop from (propertiesIn (now (properties .entry)))) ⌝ }
 {
     let mut i = from;
@@ -78,6 +80,37 @@ pub fn first_held(parameters: &[u32], from: usize, property: usize) -> usize
     while i < tables::parameter_rows(parameters) {
         let held = tables::property_of(parameters, i) as usize;
         if property <= held {
+            return i;
+        }
+        i += 1;
+    }
+    i
+}
+
+// How many parameters from `from` on belong to a property: they stand in one run.
+pub fn run_of(parameters: &[u32], from: usize, property: usize) -> usize
+    ensures { λ r. ⌜ r ≡ front (belongs property) (drop from (parametersIn (now (parameters .entry)))) ⌝ }
+{
+    let mut i = from;
+    while i < tables::parameter_rows(parameters) {
+        let held = tables::property_of(parameters, i) as usize;
+        if held != property {
+            return i - from;
+        }
+        i += 1;
+    }
+    i - from
+}
+
+// The first property from `from` up to `last` that belongs to a component; `last` where there is none.
+pub fn next_own(properties: &[u32], row: usize, from: usize, last: usize) -> usize
+    requires { ⌜ last ≤ length (now properties) / propertySize ⌝ }
+    ensures { λ r. ⌜ r ≡ from + front (ownedByOther row) (take (last - from) (drop from (propertiesIn (now (properties .entry))))) ⌝ }
+{
+    let mut i = from;
+    while i < last {
+        let owner = tables::owner_at(properties, i) as usize;
+        if owner == row {
             return i;
         }
         i += 1;
@@ -156,4 +189,40 @@ pub fn window_of(
         end: end,
         cursor: next,
     }
+}
+
+// Where the children of a component end: below the last level there are none. No table that meets the rule goes so deep.
+pub fn children_end(level: usize, first: usize, end: usize) -> usize
+    ensures { λ r. ⌜ r ≡ pick (eqb level 0) first end ⌝ }
+{
+    if level == 0 { first } else { end }
+}
+
+// Whether there is such a row and it is deeper.
+fn is_below(components: &[u32], row: usize, depth: u32) -> bool
+    ensures { λ r. ⌜ r ≡ stands componentSize componentAt (deeper depth) (now (components .entry)) row ⌝ }
+{
+    if tables::component_rows(components) <= row {
+        return false;
+    }
+    depth < tables::depth_at(components, row)
+}
+
+// Whether the subtrees of two components have equally many rows. It looks no further than the shorter one goes.
+pub fn same_size(components: &[u32], first: usize, second: usize) -> bool
+    requires { ⌜ (first < length (now components) / componentSize) × (second < length (now components) / componentSize) ⌝ }
+    ensures { λ r. ⌜ r ≡ eqb (endOf (componentsIn (now (components .entry))) first - first) (endOf (componentsIn (now (components .entry))) second - second) ⌝ }
+{
+    let one = tables::depth_at(components, first);
+    let other = tables::depth_at(components, second);
+    let mut i = first + 1;
+    let mut j = second + 1;
+    while is_below(components, i, one) {
+        if !is_below(components, j, other) {
+            return false;
+        }
+        i += 1;
+        j += 1;
+    }
+    !is_below(components, j, other)
 }

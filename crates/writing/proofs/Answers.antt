@@ -1,5 +1,5 @@
 -- What the writer answers, one reason after the other. Assumes nothing.
-use mathlib.Core.Path.{_≡_, sym, ap, _∙_}
+use mathlib.Core.Path.{_≡_, ap, _∙_}
 use Prim.Native.Nat.{ℕ, suc, _≤_, _<_}
 use native.Mathlib.Omega.{arith}
 use lib.ListN.{length}
@@ -7,14 +7,11 @@ use borrow.Author.Tests.{le-leb, lt-leb}
 use Rattle.octets.specs.Laid.{counted}
 use Rattle.octets.specs.Answers.{longest, done, tooLong, notAscii, badTable, unwritable, output, roomAnswer}
 use Rattle.octets.specs.declared.Output.{Output}
-use Rattle.tables.specs.Lent.{Lent, brokenIn, componentsIn, propertiesIn, parametersIn}
-use Rattle.tables.specs.declared.Found.{Found}
+use Rattle.tables.specs.Lent.{Lent, brokenIn}
 use Rattle.tables.specs.declared.Found.the-variants.{Nothing, At}
-use Rattle.tables.proofs.Rule.{meets}
 use Rattle.writable.specs.WritingRule.{judgedIn}
 use Rattle.writable.specs.declared.Judged.{Judged}
 use Rattle.writing.specs.Answers.{writtenIn, byLength, writeAnswer}
-use Rattle.writing.specs.Places.{Ruled}
 
 -- a refusal is not Done
 pub told-no-done : {answer row : ℕ} {r : Output} → r ≡ output (suc answer) row 0 → r .answer ≡ done → ⊥
@@ -48,12 +45,3 @@ module _ (b : Lent) (room : ℕ) {r : Output} where
     pub fitting : judgedIn b ≡ Judged.Writable → r ≡ byLength (length (writtenIn b)) room → r ≡ writeAnswer b room
     unfolding writeAnswer
     fitting e p = p ∙ rw (none, e)
-
--- tables without a broken row are as the walk wants them
-pub ruled : (b : Lent) → brokenIn b ≡ Nothing → Ruled b
-ruled b e =
-    let m = meets (length (b .text)) (componentsIn (b .components)) (propertiesIn (b .properties)) (parametersIn (b .parameters)) e in
-    record {
-      components = m .components-fit;
-      parameters = record { textLength = _; properties = _; first = _; fits = m .parameters-fit };
-    }

@@ -4,17 +4,16 @@ ghost use mathlib.Core.Bool.{true};
 ghost use mathlib.Core.List.{_++_};
 ghost use Prim.Native.Nat.{_+_, _≤_, _<_, _/_};
 ghost use lib.ListN.{length};
-ghost use lib.Dec.{eqb};
-ghost use Rattle.octets.specs.Choice.{pick};
 ghost use Rattle.octets.specs.Laid.{Lays};
 ghost use Rattle.octets.specs.Answers.{output, outAfter};
 ghost use Rattle.tables.specs.Rows.{propertySize};
 ghost use Rattle.tables.specs.Fronts.{front};
-ghost use Rattle.tables.specs.Lent.{lent, componentsIn, propertiesIn, parametersIn};
-ghost use Rattle.walking.specs.Walk.{heldBefore, inOrder};
+ghost use Rattle.tables.specs.Lent.{lent, componentsIn, propertiesIn, parametersIn, nameIn};
+ghost use Rattle.walking.specs.Walk.{heldBefore};
+ghost use Rattle.walking.specs.Places.{Rising, Owns, Ruled, Ordered, Placed};
 ghost use Rattle.printing.specs.Lines.{closedLine, endLine};
 ghost use Rattle.writing.specs.Answers.{byLength, writtenIn, writeAnswer, writeOut};
-ghost use Rattle.writing.specs.Places.{Rising, Owns, Ruled, Placed, WroteHead, Wrote, lineIn, linesIn, nameIn};
+ghost use Rattle.writing.specs.Places.{WroteHead, Wrote, lineIn, linesIn};
 use octets::Output;
 use printing::Printed;
 use tables::Found;
@@ -105,13 +104,6 @@ fn write_properties(
     printed.length
 }
 
-// Where the children of a component end: below the last level there are none. No table that meets the rule goes so deep.
-fn children_end(level: usize, first: usize, end: usize) -> usize
-    ensures { λ r. ⌜ r ≡ pick (eqb level 0) first end ⌝ }
-{
-    if level == 0 { first } else { end }
-}
-
 // Lays the line BEGIN and the properties of a component; its children come behind them.
 fn write_head(
     text: &[u8],
@@ -124,7 +116,7 @@ fn write_head(
     at: usize,
 ) -> Written
     requires { ⌜ Ruled (lent (now text) (now components) (now properties) (now parameters)) ⌝ }
-    requires { ⌜ Placed (lent (now text) (now components) (now properties) (now parameters)) place cursor ⌝ }
+    requires { ⌜ Placed (lent (now text) (now components) (now properties) (now parameters)) (place .row) (place .ordered) cursor ⌝ }
     ensures { λ r. ⌜ WroteHead (lent (now (text .entry)) (now (components .entry)) (now (properties .entry)) (now (parameters .entry))) (place .row) at (now (out .entry)) (now (out .exit)) r ⌝ }
 {
     let row = place.row;
@@ -170,7 +162,7 @@ fn write_component(
     at: usize,
 ) -> Written
     requires { ⌜ Ruled (lent (now text) (now components) (now properties) (now parameters)) ⌝ }
-    requires { ⌜ Placed (lent (now text) (now components) (now properties) (now parameters)) place cursor ⌝ }
+    requires { ⌜ Placed (lent (now text) (now components) (now properties) (now parameters)) (place .row) (place .ordered) cursor ⌝ }
     ensures { λ r. ⌜ Wrote (lent (now (text .entry)) (now (components .entry)) (now (properties .entry)) (now (parameters .entry))) place at (now (out .entry)) (now (out .exit)) r ⌝ }
 {
     let row = place.row;
@@ -186,7 +178,7 @@ fn write_component(
         out,
         at,
     );
-    let last = children_end(level, row + 1, head.end);
+    let last = walking::children_end(level, row + 1, head.end);
     let mut next = head.cursor;
     let mut end = head.at;
     let mut child = row + 1;
@@ -227,7 +219,7 @@ fn write_trees(
     out: &mut [u8],
 ) -> usize
     requires { ⌜ Ruled (lent (now text) (now components) (now properties) (now parameters)) ⌝ }
-    requires { ⌜ (ordered ≡ true → inOrder (componentsIn (now components)) (propertiesIn (now properties)) ≡ true) ⌝ }
+    requires { ⌜ Ordered (lent (now text) (now components) (now properties) (now parameters)) ordered ⌝ }
     ensures { λ r. ⌜ Lays 0 (writtenIn (lent (now (text .entry)) (now (components .entry)) (now (properties .entry)) (now (parameters .entry)))) (now (out .entry)) (now (out .exit)) r ⌝ }
 {
     let rows = tables::component_rows(components);

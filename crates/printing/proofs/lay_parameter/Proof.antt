@@ -35,7 +35,7 @@ same-length c = search needs
 returns : tie.Need-returns
 returns c =
     let n = c .before .before .before .before in
-    piece-as (key-alone (start-of n .args .text .now) (start-of n .args .p) (key-of n .view .ensures) (c .if1 .taken)) (n .lay-after .ensures)
+    piece-as (key-alone (start-of n .args .text .now) (start-of n .args .p) (key-of n .view .ensures .0) (c .if1 .taken)) (n .lay-after .ensures)
 
 cast-view-3 : tie.Need-cast-view-3
 cast-view-3 c = search needs
@@ -56,7 +56,7 @@ returns-2 : tie.Need-returns-2
 returns-2 c =
     let n = named c in
     let s = start-of n in
-    piece-as (with-value (s .args .text .now) (s .args .p) (key-of n .view .ensures) (c .before .before .before .before .view2 .ensures) (value-test c .if1 .left))
+    piece-as (with-value (s .args .text .now) (s .args .p) (key-of n .view .ensures .0) (c .before .before .before .before .view2 .ensures .0) (value-test c .if1 .left))
     (then (n .lay-after .ensures) (c .before .before .lay-value .ensures) (omega arith))
 
 pub lay-parameter-spec : {M : Type 1} → statement M

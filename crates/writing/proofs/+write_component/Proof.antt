@@ -1,7 +1,7 @@
 -- `writing::write_component`, which calls itself for each child: its head, the children side by side, its end. The level falls with each call.
 use native.Mathlib.Omega.{arith}
 use mathlib.Core.Path.{_≡_, sym, ap, _∙_}
-use mathlib.Core.List.{List, _++_}
+use mathlib.Core.List.{List}
 use Prim.Native.Nat.{ℕ, _+_, _-_, _≤_, _<_}
 use lib.ListN.{length}
 use lib.Dec.{eqb}
@@ -10,16 +10,18 @@ use borrow.Fn.Kinds.{In, Out}
 use borrow.Fn.PlainCycle.{Measures, is, falls, and}
 use Rattle.octets.specs.Laid.{most}
 use Rattle.octets.proofs.Writing.{both, from-as}
-use Rattle.tables.specs.Lent.{Lent, lent, componentsIn, propertiesIn, parametersIn}
+use Rattle.tables.specs.Lent.{Lent, lent, componentsIn}
 use Rattle.tables.specs.declared.ComponentRow.{ComponentRow}
-use Rattle.tables.proofs.Nested.{Nested, depthOf, rows-nested}
-use Rattle.walking.proofs.Walks.{reached-on}
-use Rattle.walking.proofs.Siblings.{children, end-later}
-use Rattle.writing.proofs.Laws.{same-room, Going, begin, onward, up-to, all-written, siblingBytes, component-bytes, children-bytes, end-after, end-before, some-level}
+use Rattle.tables.proofs.Nested.{depthOf}
+use Rattle.walking.specs.Walk.{endOf}
+use Rattle.walking.proofs.Siblings.{end-later}
+use Rattle.walking.proofs.Along.{begin-children, level-left, placed, children-ahead, behind}
+use Rattle.printing.specs.Lines.{written}
+use Rattle.writing.proofs.Laws.{same-room, Going, going, one-written, all-written, component-bytes}
 use Rattle.writing.proofs.write_component.Reads as reads
 use Rattle.writing.proofs.write_component.Kinds as kinds
 use Rattle.writing.proofs.+write_component.Lts-write_component as lts
-use Rattle.writing.proofs.children_end.Reads as children-end-reads
+use Rattle.walking.proofs.children_end.Reads as children-end-reads
 use Rattle.writing.proofs.write_end.Reads as write-end-reads
 use Rattle.writing.proofs.write_head.Reads as write-head-reads
 use Rattle.writing.proofs.+write_component.{statement}
@@ -83,18 +85,23 @@ tables-of s = lent (s .args .text .now) (s .args .components .now) (s .args .pro
 abbrev components-of : {t : ℕ} → Place lts.Start t → List ComponentRow
 components-of s = componentsIn (s .args .components .now)
 
-nested-of : {t : ℕ} (s : Place lts.Start t) (row : ℕ) → row < length (components-of s) → Nested (components-of s) row
-nested-of s = rows-nested (components-of s) (length (s .args .text .now)) (s .pre .1 .0 .components)
+there-at : {t : ℕ} (s : Place lts.Start t) → s .args .place .row < length (components-of s)
+there-at s = s .pre .1 .1 .there
 
--- in the loop: a child is to come, so there is a level for it, and the children end with the subtree
-deeper : (t : ℕ) (c : Place lts.In-loop t) →
-    let n = c .before .before in
-    (0 < start-at n .args .place .level) × (n .before .children-end .result ≡ head-at n .write-head .result .end)
+-- where the children end
+ends : (t : ℕ) (c : Place lts.After-next t)
+    → c .before .children-end .result
+    ≡ pick (eqb (start-at c .args .place .level) 0) (start-at c .args .place .row + 1) (endOf (components-of (start-at c)) (start-at c .args .place .row))
+ends t c =
+    let a = start-at c .args in
+    c .before .children-end .ensures ∙ ap (λ (k : ℕ). pick (eqb (a .place .level) 0) (a .place .row + 1) k) (head-at c .write-head .ensures .end)
+
+-- in the loop: a child is to come, so there is a level for it
+deeper : (t : ℕ) (c : Place lts.In-loop t) → 0 < start-at (c .before .before) .args .place .level
 deeper t c =
     let n = c .before .before in
-    let a = start-at n .args in
-    let l = n .before .children-end .ensures in
-    some-level (a .place .row + 1) (head-at n .write-head .result .end) (a .place .level) (c .before .loop .child) l (c .before .loop .inv .after) (c .loop-test .taken)
+    let s = start-at n in
+    level-left (tables-of s) (s .pre .1 .0) (s .args .place .level) (s .args .place .row) (there-at s) (ends t n) (c .before .loop .inv .along) (c .loop-test .taken)
 
 start-room : (t : ℕ) (c : Place lts.After-next t) → length (start-at c .args .out .now) ≤ most
 start-room t c = omega (arith, start-at c .good .1 .1 .1 .1 .1 .1 .0)
@@ -120,26 +127,20 @@ loop-holds : Asks lts.Need-loop-holds
 loop-holds t c =
     let s = start-at c in
     let a = s .args in
-    let e = head-at c .write-head .ensures .end in
-    let after : a .place .row + 1 ≤ head-at c .write-head .result .end = omega (arith, end-later (components-of s) (a .place .row)) in
-    let last = c .before .children-end .ensures in
-    begin (tables-of s) (a .place .level - 1) (a .place .row + 1) (c .before .children-end .result) (head-at c .write-head .result .at) (head-at c .write-head .last .1 .1 .1 .1 .1 .1 .0)
-    (omega (arith, last, end-after (a .place .row + 1) (head-at c .write-head .result .end) (a .place .level) after))
-    (λ l. let d = some-level (a .place .row + 1) (head-at c .write-head .result .end) (a .place .level) (a .place .row + 1) last (omega arith) l in
-    up-to (tables-of s) (a .place .level - 1) (d .1 ∙ e) (children (components-of s) (nested-of s) (a .place .row) (s .pre .1 .1 .row)))
-    (reached-on (propertiesIn (a .properties .now)) (parametersIn (a .parameters .now)) (a .place .row + 1) (head-at c .write-head .ensures .reached) (omega arith))
-    (omega (arith, head-at c .write-head .ensures .lays .count))
+    let h = head-at c .write-head in
+    going (tables-of s) (a .place .level - 1) (h .result .at) (h .last .1 .1 .1 .1 .1 .1 .0)
+    (begin-children (tables-of s) (s .pre .1 .0) (a .place .level) (a .place .row) (there-at s) (ends t c) (h .ensures .reached))
+    (omega (arith, h .ensures .lays .count))
 
 sub-t23 : Asks lts.Need-sub-t23
-sub-t23 t c = omega (arith, deeper t c .0)
+sub-t23 t c = omega (arith, deeper t c)
 
 write-component-requires : Asks lts.Need-write-component-requires
 write-component-requires t c κs =
     let i = c .before in
-    let s = start-at (i .before .before) in
-    let g = i .before .loop .inv in (
-      omega (arith, deeper t i .0, s .pre .0),
-      (s .pre .1 .0, record { row = omega (arith, g .siblings (i .loop-test .taken) .inside, i .loop-test .taken); ordered = s .pre .1 .1 .ordered; reached = g .reached }),
+    let s = start-at (i .before .before) in (
+      omega (arith, deeper t i, s .pre .0),
+      (s .pre .1 .0, placed (tables-of s) (i .before .loop .inv .along) (i .loop-test .taken) (s .pre .1 .1 .order)),
     )
 
 loop-less : Asks lts.Need-loop-less
@@ -153,10 +154,10 @@ loop-again t c =
     let i = in-loop t c in
     let s = start-at (i .before .before) in
     let w = c .before .before .before .write-component .ensures in
-    onward (tables-of s) (s .args .place .level - 1) (i .before .loop .inv) (i .loop-test .taken) (room-of t (i .before .before)) (w .lays) (w .end) (w .reached)
+    one-written (tables-of s) (s .args .place .level - 1) (i .before .loop .inv) (i .loop-test .taken) (room-of t (i .before .before)) (w .lays) (w .end) (w .reached)
 
 write-end-requires : Asks lts.Need-write-end-requires
-write-end-requires t c κs = start-at (c .before .before .before) .pre .1 .1 .row
+write-end-requires t c κs = start-at (c .before .before .before) .pre .1 .1 .there
 
 same-length : Asks lts.Need-same-length
 same-length t c =
@@ -170,26 +171,16 @@ returns t c =
     let s = start-at n in
     let a = s .args in
     let row = a .place .row in
-    let e = head-at n .write-head .ensures .end in
-    let last = n .before .children-end .ensures ∙ ap (λ (k : ℕ). pick (eqb (a .place .level) 0) (row + 1) k) e in
-    let bytes =
-    ap (siblingBytes (tables-of s) (a .place .level - 1) row (row + 1)) last
-    ∙ sym (children-bytes (tables-of s) (a .place .level) row (nested-of s) (s .pre .1 .1 .row))
-    in
-    let kids = from-as bytes (all-written (tables-of s) (a .place .level - 1) (l .loop .inv) (c .before .before .before .before .loop-test .left)) in
-    let before : l .loop .child ≤ head-at n .write-head .result .end =
-    omega (
-      arith,
-      l .loop .inv .bound,
-      n .before .children-end .ensures,
-      end-before (row + 1) (head-at n .write-head .result .end) (a .place .level) (omega (arith, end-later (components-of s) row)),
-    )
+    let kids =
+    from-as (ap written (sym (children-ahead (tables-of s) (s .pre .1 .0) (a .place .level) row (there-at s) (ends t n))))
+    (all-written (tables-of s) (a .place .level - 1) (l .loop .inv) (c .before .before .before .before .loop-test .left))
     in
     record {
       lays = from-as (sym (component-bytes (tables-of s) (a .place .level) row))
           (both (head-at n .write-head .ensures .lays) (both kids (c .before .before .write-end .ensures) (room-of t n)) (start-room t n));
-      end = e;
-      reached = reached-on (propertiesIn (a .properties .now)) (parametersIn (a .parameters .now)) (head-at n .write-head .result .end) (l .loop .inv .reached) before;
+      end = head-at n .write-head .ensures .end;
+      reached = rw (head-at n .write-head .ensures .end)
+          (behind (tables-of s) (s .pre .1 .0) (a .place .level) row (there-at s) (ends t n) (l .loop .inv .along));
     }
 
 pub +write-component-spec : {M : Type 1} → statement M

@@ -5,7 +5,7 @@ use Prim.Native.Nat.{ℕ}
 use mathlib.Core.List.{List}
 use Rattle.octets.proofs.Writing.{from-as}
 use Rattle.printing.specs.Lines.{closedLine, endLine}
-use Rattle.writing.proofs.Laws.{row-there, name-is}
+use Rattle.walking.proofs.Rows.{row-there, name-is}
 use Rattle.writing.proofs.write_end.Statement.{statement}
 use Rattle.writing.proofs.write_end.Tie as tie
 
@@ -43,7 +43,7 @@ returns : tie.Need-returns
 returns c =
     let a = start-of c .args in
     from-as (ap (λ (n : List ℕ). closedLine (endLine n))
-    (name-of c .view .ensures ∙ name-is (a .text .now) (a .components .now) (a .row) (start-of c .pre) (row-of c .component-at .ensures)))
+    (name-of c .view .ensures .0 ∙ name-is (a .text .now) (a .components .now) (a .row) (start-of c .pre) (row-of c .component-at .ensures)))
     (c .before .before .write-mark .ensures)
 
 pub write-end-spec : {M : Type 1} → statement M

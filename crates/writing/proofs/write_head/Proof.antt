@@ -7,7 +7,7 @@ use mathlib.Core.List.{List}
 use Rattle.octets.proofs.Writing.{from-as, both}
 use Rattle.tables.specs.Lent.{componentsIn}
 use Rattle.printing.specs.Lines.{closedLine, beginLine}
-use Rattle.writing.proofs.Laws.{row-there, name-is}
+use Rattle.walking.proofs.Rows.{row-there, name-is}
 use Rattle.writing.proofs.write_head.Statement.{statement}
 use Rattle.writing.proofs.write_head.Tie as tie
 
@@ -33,7 +33,7 @@ abbrev at-start : tie.After-slice-known → tie.Start
 at-start c = c .before .before .before .before .before
 
 component-at-requires : tie.Need-component-at-requires
-component-at-requires c κs = let s = at-start c in row-there (s .args .components .now) (s .args .place .row) (s .pre .1 .row)
+component-at-requires c κs = let s = at-start c in row-there (s .args .components .now) (s .args .place .row) (s .pre .1 .there)
 
 cast-view : tie.Need-cast-view
 cast-view c = search needs
@@ -53,7 +53,7 @@ write-mark-requires c κs = search needs
 window-of-requires : tie.Need-window-of-requires
 window-of-requires c κs =
     let s = before-window c in
-    (row-there (s .args .components .now) (s .args .place .row) (s .pre .1 .row), (s .pre .1 .reached, s .pre .1 .ordered))
+    (row-there (s .args .components .now) (s .args .place .row) (s .pre .1 .there), (s .pre .1 .reached, s .pre .1 .order))
 
 write-properties-requires : tie.Need-write-properties-requires
 write-properties-requires c κs =
@@ -67,7 +67,7 @@ returns : tie.Need-returns
 returns c =
     let s = start-at c in
     let a = s .args in
-    let name = name-at c .view .ensures ∙ name-is (a .text .now) (a .components .now) (a .place .row) (s .pre .1 .row) (row-at c .component-at .ensures) in
+    let name = name-at c .view .ensures .0 ∙ name-is (a .text .now) (a .components .now) (a .place .row) (s .pre .1 .there) (row-at c .component-at .ensures) in
     let holds = window-at c .window-of .ensures in
     let marked = from-as (ap (λ (n : List ℕ). closedLine (beginLine n)) name) (mark-at c .write-mark .ensures) in
     record {

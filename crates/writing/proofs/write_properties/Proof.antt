@@ -14,7 +14,7 @@ use Rattle.tables.specs.Trees.{propertyOf}
 use Rattle.tables.proofs.Laws.{length-rows, row-here}
 use Rattle.printing.specs.Lines.{propertyLines}
 use Rattle.walking.proofs.Found.{in-window}
-use Rattle.writing.proofs.Laws.{ownFrom, Listing, line-laid, line-passed, all-laid}
+use Rattle.writing.proofs.Laws.{Listing, line-laid, line-passed, all-laid}
 use Rattle.writing.proofs.write_properties.Statement.{statement}
 use Rattle.writing.proofs.write_properties.Tie as tie
 

@@ -11,7 +11,8 @@ use Rattle.tables.specs.Trees.{Property}
 use Rattle.tables.specs.declared.PropertyRow.{PropertyRow}
 use Rattle.printing.specs.Lines.{closedLine, propertyLine}
 use Rattle.printing.specs.Pens.{printedLine}
-use Rattle.writing.proofs.Laws.{lent-rest, behind-own, own-property}
+use Rattle.walking.proofs.Own.{behind-own, own-property}
+use Rattle.writing.proofs.Laws.{lent-rest}
 use Rattle.writing.proofs.write_property.Statement.{statement}
 use Rattle.writing.proofs.write_property.Tie as tie
 

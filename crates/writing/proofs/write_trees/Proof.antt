@@ -14,8 +14,9 @@ use Rattle.tables.proofs.Laws.{length-rows}
 use Rattle.tables.proofs.Nested.{Nested, rows-nested}
 use Rattle.walking.proofs.Walks.{reached-start}
 use Rattle.walking.proofs.Siblings.{tops, top-trees, end-later}
+use Rattle.walking.proofs.Along.{begin, placed}
 use Rattle.printing.specs.Lines.{written}
-use Rattle.writing.proofs.Laws.{Going, begin, onward, all-written}
+use Rattle.writing.proofs.Laws.{Going, going, one-written, all-written}
 use Rattle.writing.proofs.write_trees.Statement.{statement}
 use Rattle.writing.proofs.write_trees.Tie as tie
 
@@ -60,8 +61,10 @@ component-rows-requires c κs = search needs
 loop-holds : tie.Need-loop-holds Inv-loop μ-loop
 loop-holds c =
     let s = start-at c in
-    begin (tables-of s) 63 0 (length (components-of s)) 0 (s .args .out .now) zero-le (λ l. tops (components-of s) (nested-of s))
-    (reached-start (propertiesIn (s .args .properties .now)) (parametersIn (s .args .parameters .now))) (omega arith)
+    going (tables-of s) 63 0 (s .args .out .now)
+    (begin (tables-of s) zero-le (λ l. tops (components-of s) (nested-of s))
+    (reached-start (propertiesIn (s .args .properties .now)) (parametersIn (s .args .parameters .now))))
+    (omega arith)
 
 sub-t14 : tie.Need-sub-t14 Inv-loop μ-loop
 sub-t14 c = omega arith
@@ -70,10 +73,7 @@ write-component-requires : tie.Need-write-component-requires Inv-loop μ-loop
 write-component-requires c κs =
     let i = c .before in
     let s = start-at (i .before .before) in
-    let g = i .before .loop .inv in (
-      s .pre .0,
-      record { row = omega (arith, rows-are (i .before .before), i .loop-test .taken); ordered = s .pre .1; reached = g .reached },
-    )
+    (s .pre .0, placed (tables-of s) (i .before .loop .inv .along) (omega (arith, rows-are (i .before .before), i .loop-test .taken)) (s .pre .1))
 
 loop-less : tie.Need-loop-less Inv-loop μ-loop
 loop-less c =
@@ -86,7 +86,7 @@ loop-again c =
     let i = in-loop c in
     let s = at-start c in
     let w = c .before .before .before .write-component .ensures in
-    onward (tables-of s) 63 (i .before .loop .inv) (omega (arith, rows-are (i .before .before), i .loop-test .taken)) (room-of (i .before .before))
+    one-written (tables-of s) 63 (i .before .loop .inv) (omega (arith, rows-are (i .before .before), i .loop-test .taken)) (room-of (i .before .before))
     (w .lays) (w .end) (w .reached)
 
 same-length : tie.Need-same-length Inv-loop μ-loop

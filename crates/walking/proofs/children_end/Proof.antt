@@ -1,7 +1,7 @@
--- `writing::children_end`: none below the last level.
+-- `walking::children_end`: none below the last level.
 use borrow.Author.Tests.{eq-eqb, ne-eqb}
-use Rattle.writing.proofs.children_end.Statement.{statement}
-use Rattle.writing.proofs.children_end.Tie as tie
+use Rattle.walking.proofs.children_end.Statement.{statement}
+use Rattle.walking.proofs.children_end.Tie as tie
 
 returns : tie.Need-returns
 returns c = rw (eq-eqb (c .before .args .level) 0 (c .if1 .taken))
