@@ -1,0 +1,186 @@
+// Whether two rows say the same: names, keys, values, parameters, and the properties of two components.
+ghost use mathlib.Core.Path.{_≡_};
+ghost use Prim.Native.Nat.{_<_, _/_};
+ghost use lib.ListN.{length};
+ghost use Rattle.octets.specs.Views.{viewed};
+ghost use Rattle.octets.specs.Words.{sameBytes};
+ghost use Rattle.tables.specs.Rows.{propertySize, propertyAt};
+ghost use Rattle.tables.specs.Lent.{propertiesIn, parametersIn};
+ghost use Rattle.tables.specs.Trees.{parameterOf, propertiesOf};
+ghost use Rattle.tables.specs.Fronts.{ownParameters, ownProperty};
+ghost use Rattle.walking.specs.Places.{Rising, Owns};
+ghost use Rattle.matching.specs.Alike.{sameName, sameKey, sameValue, sameParameter, sameParameters, sameProperty, sameProperties};
+use octets::Span;
+use tables::ComponentRow;
+use tables::ParameterRow;
+use tables::PropertyRow;
+use walking::Window;
+
+// A property row, and the parameter row from which on those that belong to it stand.
+pub struct Held {
+    pub property: usize,
+    pub first: usize,
+}
+
+// A component row, and where its properties stand.
+pub struct Side {
+    pub row: usize,
+    pub window: Window,
+}
+
+// A start and a length as a row has them.
+fn span(start: u32, len: u32) -> Span
+    ensures { λ r. ⌜ (r .start ≡ start) × (r .len ≡ len) ⌝ }
+{
+    Span {
+        start: start as usize,
+        len: len as usize,
+    }
+}
+
+// Whether two parts of a text have the same bytes.
+fn same_part(text: &[u8], a: Span, b: Span) -> bool
+    ensures { λ r. ⌜ r ≡ sameBytes (viewed (now (text .entry)) (a .start) (a .len)) (viewed (now (text .entry)) (b .start) (b .len)) ⌝ }
+{
+    octets::same_bytes(
+        octets::view(text, a.start, a.len),
+        octets::view(text, b.start, b.len),
+    )
+}
+
+// Whether two components have the same name.
+pub fn same_name(text: &[u8], a: ComponentRow, b: ComponentRow) -> bool
+    ensures { λ r. ⌜ r ≡ sameName (viewed (now (text .entry)) (a .«name_start») (a .«name_len»)) (viewed (now (text .entry)) (b .«name_start») (b .«name_len»)) ⌝ }
+{
+    let one = span(a.name_start, a.name_len);
+    let other = span(b.name_start, b.name_len);
+    same_part(text, one, other)
+}
+
+// Whether two properties, or two parameters, have the same key.
+fn same_key(text: &[u8], a: Span, b: Span) -> bool
+    ensures { λ r. ⌜ r ≡ sameKey (viewed (now (text .entry)) (a .start) (a .len)) (viewed (now (text .entry)) (b .start) (b .len)) ⌝ }
+{
+    same_part(text, a, b)
+}
+
+// Whether two properties have the same value.
+pub fn same_value(text: &[u8], p: PropertyRow, q: PropertyRow) -> bool
+    ensures { λ r. ⌜ r ≡ sameValue (viewed (now (text .entry)) (p .«value_start») (p .«value_len»)) (viewed (now (text .entry)) (q .«value_start») (q .«value_len»)) ⌝ }
+{
+    let one = span(p.value_start, p.value_len);
+    let other = span(q.value_start, q.value_len);
+    same_part(text, one, other)
+}
+
+// Whether two parameters are the same: their keys, and their values if they have one.
+fn same_parameter(text: &[u8], p: ParameterRow, q: ParameterRow) -> bool
+    ensures { λ r. ⌜ r ≡ sameParameter (parameterOf (now (text .entry)) p) (parameterOf (now (text .entry)) q) ⌝ }
+{
+    if !same_key(
+        text,
+        span(p.key_start, p.key_len),
+        span(q.key_start, q.key_len),
+    ) {
+        return false;
+    }
+    if p.present == 0 {
+        return q.present == 0;
+    }
+    if q.present == 0 {
+        return false;
+    }
+    same_part(
+        text,
+        span(p.value_start, p.value_len),
+        span(q.value_start, q.value_len),
+    )
+}
+
+// Whether two properties have the same parameters, in order.
+pub fn same_parameters(text: &[u8], parameters: &[u32], a: Held, b: Held) -> bool
+    ensures { λ r. ⌜ r
+        ≡ sameParameters (ownParameters (now (text .entry)) (a .property) (a .first) (parametersIn (now (parameters .entry))))
+        (ownParameters (now (text .entry)) (b .property) (b .first) (parametersIn (now (parameters .entry)))) ⌝ }
+{
+    let count = walking::run_of(parameters, a.first, a.property);
+    if walking::run_of(parameters, b.first, b.property) != count {
+        return false;
+    }
+    let mut i: usize = 0;
+    while i < count {
+        let p = tables::parameter_at(parameters, a.first + i);
+        let q = tables::parameter_at(parameters, b.first + i);
+        if !same_parameter(text, p, q) {
+            return false;
+        }
+        i += 1;
+    }
+    true
+}
+
+// Whether two properties are the same: key, value and parameters.
+pub fn same_property(text: &[u8], properties: &[u32], parameters: &[u32], a: Held, b: Held) -> bool
+    requires { ⌜ (a .property < length (now properties) / propertySize) × (b .property < length (now properties) / propertySize) ⌝ }
+    ensures { λ r. ⌜ r ≡ sameProperty
+        (ownProperty (now (text .entry)) (propertyAt (now (properties .entry)) (a .property)) (a .property) (a .first) (parametersIn (now (parameters .entry))))
+        (ownProperty (now (text .entry)) (propertyAt (now (properties .entry)) (b .property)) (b .property) (b .first) (parametersIn (now (parameters .entry)))) ⌝ }
+{
+    let p = tables::property_at(properties, a.property);
+    let q = tables::property_at(properties, b.property);
+    if !same_key(
+        text,
+        span(p.key_start, p.key_len),
+        span(q.key_start, q.key_len),
+    ) {
+        return false;
+    }
+    if !same_value(text, p, q) {
+        return false;
+    }
+    same_parameters(text, parameters, a, b)
+}
+
+// Whether two components have the same properties, in order; all of each stand in its window.
+pub fn same_properties(
+    text: &[u8],
+    properties: &[u32],
+    parameters: &[u32],
+    a: Side,
+    b: Side,
+) -> bool
+    requires { ⌜ Rising (parametersIn (now parameters))
+        × Owns (propertiesIn (now properties)) (parametersIn (now parameters)) (a .row) (a .window)
+        × Owns (propertiesIn (now properties)) (parametersIn (now parameters)) (b .row) (b .window) ⌝ }
+    ensures { λ r. ⌜ r ≡ sameProperties
+        (propertiesOf (now (text .entry)) (propertiesIn (now (properties .entry))) (parametersIn (now (parameters .entry))) (a .row))
+        (propertiesOf (now (text .entry)) (propertiesIn (now (properties .entry))) (parametersIn (now (parameters .entry))) (b .row)) ⌝ }
+{
+    let a_last = a.window.last;
+    let b_last = b.window.last;
+    let mut i = walking::next_own(properties, a.row, a.window.first, a_last);
+    let mut j = walking::next_own(properties, b.row, b.window.first, b_last);
+    let mut p = a.window.parameter;
+    let mut q = b.window.parameter;
+    while i < a_last {
+        if b_last <= j {
+            return false;
+        }
+        p = walking::first_held(parameters, p, i);
+        q = walking::first_held(parameters, q, j);
+        let one = Held {
+            property: i,
+            first: p,
+        };
+        let other = Held {
+            property: j,
+            first: q,
+        };
+        if !same_property(text, properties, parameters, one, other) {
+            return false;
+        }
+        i = walking::next_own(properties, a.row, i + 1, a_last);
+        j = walking::next_own(properties, b.row, j + 1, b_last);
+    }
+    b_last <= j
+}

@@ -1,0 +1,169 @@
+-- What the answer of the twin test means: when it is Done with 1 and when with 0, that twins are an equivalence, and that the trees it compares are those
+-- that whole tables stand for. Assumes nothing.
+use mathlib.Core.Path.{_≡_, refl, sym, ap, _∙_}
+use mathlib.Core.Bool.{Bool, true, false}
+use mathlib.Core.List.{List, [], _∷_}
+use mathlib.Core.Logic.{_↔_}
+use Prim.Native.Nat.{ℕ, suc, _+_, _≤_, _<_}
+use native.Mathlib.Nat.{add-comm}
+use native.Mathlib.Numerals.{add-one}
+use native.Mathlib.Omega.{arith}
+use lib.ListN.{length, drop, length-drop}
+use lib.Seq.{drop-cons}
+use lib.Dec.{eqb, ltb}
+use borrow.Author.Tests.{ltb-true, ltb-false}
+use Rattle.octets.specs.Choice.{pick}
+use Rattle.octets.specs.Answers.{done, badTable, deepest}
+use Rattle.tables.specs.Rows.{noParent, componentAt}
+use Rattle.tables.specs.Lent.{Lent, brokenIn, treeIn, treesIn}
+use Rattle.tables.specs.Trees.{Trees, none, gather, grown, forest}
+use Rattle.tables.specs.declared.ComponentRow.{ComponentRow}
+use Rattle.tables.specs.declared.Found.{Found}
+use Rattle.tables.specs.declared.Found.the-variants.{Nothing, At}
+use Rattle.tables.proofs.Levels.{tree-enough}
+use Rattle.tables.proofs.Nested.{componentOf, depthOf, rows-nested}
+use Rattle.tables.proofs.Rule.{meets}
+use Rattle.walking.proofs.Along.{comps, props, params}
+use Rattle.matching.proofs.Alike.{twins-equal}
+use Rattle.twins.specs.Answers.{compared, levels, twinRows, twinsAnswer}
+use Rattle.twins.specs.Tops.{before, treesAt, topRows}
+use Rattle.twins.specs.declared.Compared.{Compared}
+use Rattle.twins.proofs.Answers.{broken-row, no-first, no-second, told}
+
+-- ---- when it answers Done
+
+-- the question can be asked: the table rule is met, and both numbers are below the count
+pub record Asked (b : Lent) (first second : ℕ) : Type 0 where
+  pub sound : brokenIn b ≡ Nothing
+  pub first-there : first < length (comps b)
+  pub second-there : second < length (comps b)
+
+-- 1 for twins, 0 for others
+abbrev asNumber : Bool → ℕ
+asNumber t = pick t 1 0
+
+module _ (b : Lent) (first second : ℕ) where
+  abbrev answer : Compared
+  answer = twinsAnswer b first second
+
+  -- a refusal is not Done
+  refused : {n place : ℕ} → answer ≡ compared done 0 n → answer ≡ compared badTable place 0 → ⊥
+  refused e f = omega (arith, ap (λ (c : Compared). c .answer) (sym e ∙ f))
+
+  asked : {n : ℕ} → answer ≡ compared done 0 n → Asked b first second
+  asked e = by-rule (brokenIn b) refl
+    where
+      by-second : brokenIn b ≡ Nothing → first < length (comps b) → (t : Bool) → ltb second (length (comps b)) ≡ t → Asked b first second
+      by-second s h true t = record { sound = s; first-there = h; second-there = ltb-true second (length (comps b)) t }
+      by-second s h false t = absurd (refused e (no-second b first second s h (ltb-false second (length (comps b)) t)))
+
+      by-first : brokenIn b ≡ Nothing → (t : Bool) → ltb first (length (comps b)) ≡ t → Asked b first second
+      by-first s true t = by-second s (ltb-true first (length (comps b)) t) (ltb second (length (comps b))) refl
+      by-first s false t = absurd (refused e (no-first b first second s (ltb-false first (length (comps b)) t)))
+
+      by-rule : (f : Found) → brokenIn b ≡ f → Asked b first second
+      by-rule Nothing s = by-first s (ltb first (length (comps b))) refl
+      by-rule (At row) s = absurd (refused e (broken-row b first second s))
+
+  -- then it tells whether the trees are alike
+  tells : Asked b first second → {t : Bool} → twinRows b first second ≡ t → answer ≡ compared done 0 (asNumber t)
+  tells a t = told b first second (a .sound) (a .first-there) (a .second-there) ∙ rw t
+
+  number : {n : ℕ} → answer ≡ compared done 0 n → {t : Bool} → twinRows b first second ≡ t → asNumber t ≡ n
+  number e t = ap (λ (c : Compared). c .twins) (sym (tells (asked e) t) ∙ e)
+
+  abbrev Equal : Type 0
+  Equal = treeIn b levels first ≡ treeIn b levels second
+
+  alike : Equal → twinRows b first second ≡ true
+  alike e = rw e (twins-equal .passes (treeIn b levels second))
+
+  equal : twinRows b first second ≡ true → Equal
+  equal = twins-equal .equal (treeIn b levels first) (treeIn b levels second)
+
+  -- Done with 1 exactly if the question can be asked and the trees are equal
+  pub twins-exactly : (answer ≡ compared done 0 1) ↔ (Asked b first second × Equal)
+  twins-exactly = (λ e. (asked e, is e (twinRows b first second) refl), λ a. tells (a .0) (alike (a .1)))
+    where
+      is : answer ≡ compared done 0 1 → (t : Bool) → twinRows b first second ≡ t → Equal
+      is e true t = equal t
+      is e false t = absurd (omega (arith, number e t))
+
+  -- Done with 0 exactly if it can be asked and they are not
+  pub strangers-exactly : (answer ≡ compared done 0 0) ↔ (Asked b first second × (Equal → ⊥))
+  strangers-exactly = (λ e. (asked e, λ same. omega (arith, number e (alike same))), λ a. tells (a .0) (unlike (a .1) (twinRows b first second) refl))
+    where
+      unlike : (Equal → ⊥) → (t : Bool) → twinRows b first second ≡ t → twinRows b first second ≡ false
+      unlike h true t = absurd (h (equal t))
+      unlike h false t = t
+
+-- ---- twins are an equivalence of the rows of tables that meet the rule
+
+-- two rows are twins
+abbrev pub Twins : Lent → ℕ → ℕ → Type 0
+Twins b first second = twinsAnswer b first second ≡ compared done 0 1
+
+module _ (b : Lent) where
+  pub twin-itself : (row : ℕ) → brokenIn b ≡ Nothing → row < length (comps b) → Twins b row row
+  twin-itself row s h = twins-exactly b row row .1 (record { sound = s; first-there = h; second-there = h }, refl)
+
+  pub twin-turned : (first second : ℕ) → Twins b first second → Twins b second first
+  twin-turned first second e =
+      let a = twins-exactly b first second .0 e in
+      twins-exactly b second first .1 (record { sound = a .0 .sound; first-there = a .0 .second-there; second-there = a .0 .first-there }, sym (a .1))
+
+  pub twin-joined : (first second third : ℕ) → Twins b first second → Twins b second third → Twins b first third
+  twin-joined first second third e f =
+      let a = twins-exactly b first second .0 e in
+      let c = twins-exactly b second third .0 f in
+      twins-exactly b first third .1 (record { sound = a .0 .sound; first-there = a .0 .first-there; second-there = c .0 .second-there }, a .1 ∙ c .1)
+
+  -- ---- the trees that are compared
+
+  -- the tree of a row is the same with every level that is enough below it, and 63 are
+  pub level-enough : (level row : ℕ) → brokenIn b ≡ Nothing → row < length (comps b) → deepest ≤ depthOf (comps b) row + level
+      → treeIn b level row ≡ treeIn b levels row
+  level-enough level row s h e =
+      let m = meets (length (b .text)) (comps b) (props b) (params b) s in
+      let fits = m .components-fit in
+      let more : (n k : ℕ) → deepest ≤ depthOf (comps b) row + n → treeIn b (n + k) row ≡ treeIn b n row =
+      λ n k d. tree-enough (b .text) (comps b) (props b) (params b) (length (b .text)) fits n k row h d
+      in
+      sym (more level levels e)
+      ∙ (ap (λ (n : ℕ). treeIn b n row) (add-comm level levels)
+      ∙ more levels level (omega (arith, rows-nested (comps b) (length (b .text)) fits row h .some)))
+
+  -- the tree of a row before others
+  abbrev put : ℕ → ComponentRow → Trees → Trees
+  put = grown (b .text) (comps b) (props b) (params b) (forest (b .text) (comps b) (props b) (params b) levels)
+
+  abbrev topsFrom : ℕ → List ComponentRow → List ℕ
+  topsFrom = gather (λ (c : ComponentRow). c .parent) (λ row c rest. row ∷ rest) [] noParent
+
+  gathered : (xs : List ComponentRow) (i : ℕ) → xs ≡ drop i (comps b) → gather (λ (c : ComponentRow). c .parent) put none noParent i xs ≡ treesAt b (topsFrom i xs)
+  unfolding gather before treesAt
+  gathered [] i e = refl
+  gathered (x ∷ xs) i e = go (eqb (x .parent) noParent) (topsFrom (i + 1) xs) (gathered xs (i + 1) (cc here))
+    where
+      l : i < length (comps b)
+      l = omega (arith, length-drop i (comps b), ap length e)
+
+      here : drop i (comps b) ≡ componentOf (comps b) i ∷ drop (i + 1) (comps b)
+      here = rw (add-one, drop-cons (comps b) i (componentAt [] 0) l)
+
+      first : x ≡ componentOf (comps b) i
+      first = cc here
+
+      go : (t : Bool) (rows : List ℕ) {ts : Trees} → ts ≡ treesAt b rows → pick t (put i x ts) ts ≡ treesAt b (pick t (i ∷ rows) rows)
+      go true rows same = rw (same, first)
+      go false rows same = same
+
+  one-level : (level parent : ℕ)
+      → forest (b .text) (comps b) (props b) (params b) (suc level) parent
+      ≡ gather (λ (c : ComponentRow). c .parent) (grown (b .text) (comps b) (props b) (params b) (forest (b .text) (comps b) (props b) (params b) level)) none parent 0 (comps b)
+  unfolding forest
+  one-level level parent = refl
+
+  -- the trees of the tables are those of their top rows in turn
+  pub tops-in-turn : treesIn b ≡ treesAt b (topRows b)
+  tops-in-turn = one-level levels noParent ∙ gathered (comps b) 0 refl
