@@ -21,21 +21,19 @@ use Rattle.tables.specs.Rows.{componentAt}
 use Rattle.tables.specs.declared.ComponentRow.{ComponentRow}
 use Rattle.tables.specs.declared.PropertyRow.{PropertyRow}
 use Rattle.tables.proofs.Fronts.{on, longer, through}
-use Rattle.tables.proofs.Laws.{component-shape, property-shape}
 use Rattle.walking.specs.Walk.{deeper, depthAt, endOf, inOrder}
 use Rattle.walking.proofs.Windows.{stands, in-order-if}
 use Rattle.nesting.specs.Rows.{entry, top, componentRow, propertyRow}
 use Rattle.nesting.specs.declared.Check.{Check}
 use Rattle.nesting.specs.declared.Entry.{Entry}
 use Rattle.nesting.specs.Steps.{State, nothing, inside, checkOf, closed, after, finished, run, runOf}
-use Rattle.reading.specs.declared.Reading.{Reading}
 use Rattle.tables.specs.Lent.{Lent}
 use Rattle.reading.specs.Lent.{readInto, left}
 use Rattle.demands.specs.Lent.{toldOf, inOrderIn}
-use Rattle.demands.specs.Readable.{Readable, ReadTo}
+use Rattle.demands.specs.Readable.{Readable}
 use Rattle.demands.proofs.Readable.{done-readable}
 use Rattle.nesting.proofs.Lines.{goes-on}
-use Rattle.demands.proofs.MeetsRule.{rows-told}
+use Rattle.demands.proofs.MeetsRule.{told-rows}
 
 abbrev ownerAt : List PropertyRow → ℕ → PropertyRow → ℕ
 ownerAt properties i d = getD properties i d .owner
@@ -251,12 +249,7 @@ readable-in-order {feed} {s} r = in-order (unfolded feed) s (r .reads)
 
 -- and those that a reading answered Done leaves at the front of the buffers, lent on by themselves
 pub done-in-order : (feed : List ℕ) (b : Lent) → readInto feed b .answer ≡ done → inOrderIn (toldOf (readInto feed b) (left feed b)) ≡ true
-done-in-order feed b e = go (done-readable feed b e .0) (done-readable feed b e .1) (done-readable feed b e .2)
-  where
-    go : (s : State) → Readable feed s → ReadTo feed b s → inOrderIn (toldOf (readInto feed b) (left feed b)) ≡ true
-    go s r t =
-        rw (
-          rows-told component-shape (s .components) (readInto feed b .components) (left feed b .components) _ (ap (λ (r : Reading). r .components) (t .numbers)) (t .components),
-          rows-told property-shape (s .properties) (readInto feed b .properties) (left feed b .properties) _ (ap (λ (r : Reading). r .properties) (t .numbers)) (t .properties),
-        )
-        (readable-in-order r)
+done-in-order feed b e =
+    let w = done-readable feed b e in
+    let t = told-rows (w .2) in
+    rw (t .components, t .properties) (readable-in-order (w .1))

@@ -30,7 +30,7 @@ use Rattle.nesting.specs.Steps.{State, nothing, inside, checkOf, closed, after,
 use Rattle.nesting.proofs.Lines.{deep, at-the-end}
 use Rattle.nesting.specs.declared.Entry.{Entry}
 use Rattle.reading.specs.declared.Reading.{Reading}
-use Rattle.tables.specs.Lent.{Lent, brokenIn}
+use Rattle.tables.specs.Lent.{Lent, componentsIn, propertiesIn, parametersIn, brokenIn}
 use Rattle.reading.specs.Lent.{readInto, left}
 use Rattle.demands.specs.Lent.{toldOf}
 use Rattle.demands.specs.Readable.{Readable, ReadTo}
@@ -221,18 +221,25 @@ pub rows-told : {A : Type 0} {size : ℕ} {words : A → List ℕ} {from : List 
     → n ≡ length rows → new ≡ flat words rows ++ rest → rowsOf size (rowAt size from) (take (size * n) new) ≡ rows
 rows-told shape rows n new rest c h = rw (h, c, ← length-flat shape rows, take-append-seam) (rows-exact shape rows)
 
--- and the bytes and rows that a reading answered Done leaves at the front of the buffers, lent on by themselves, break none
+-- the bytes and the rows that a reading answered Done leaves at the front of the buffers, lent on by themselves, are the unfolded text and the rows of s
+pub record Told (feed : List ℕ) (s : State) (b : Lent) : Type 0 where
+  pub text : b .text ≡ unfolded feed
+  pub components : componentsIn (b .components) ≡ s .components
+  pub properties : propertiesIn (b .properties) ≡ s .properties
+  pub parameters : parametersIn (b .parameters) ≡ s .parameters
+
+pub told-rows : {feed : List ℕ} {b : Lent} {s : State} → ReadTo feed b s → Told feed s (toldOf (readInto feed b) (left feed b))
+told-rows {feed} {b} {s} t =
+    record {
+      text = rw (t .text, ap (λ (r : Reading). r .length) (t .numbers)) (take-append-seam (unfolded feed) _);
+      components = rows-told component-shape (s .components) (readInto feed b .components) (left feed b .components) _ (ap (λ (r : Reading). r .components) (t .numbers)) (t .components);
+      properties = rows-told property-shape (s .properties) (readInto feed b .properties) (left feed b .properties) _ (ap (λ (r : Reading). r .properties) (t .numbers)) (t .properties);
+      parameters = rows-told parameter-shape (s .parameters) (readInto feed b .parameters) (left feed b .parameters) _ (ap (λ (r : Reading). r .parameters) (t .numbers)) (t .parameters);
+    }
+
+-- so they break no rule
 pub done-meets : (feed : List ℕ) (b : Lent) → readInto feed b .answer ≡ done → brokenIn (toldOf (readInto feed b) (left feed b)) ≡ Nothing
-done-meets feed b e = go (done-readable feed b e .0) (done-readable feed b e .1) (done-readable feed b e .2)
-  where
-    go : (s : State) → Readable feed s → ReadTo feed b s → brokenIn (toldOf (readInto feed b) (left feed b)) ≡ Nothing
-    go s r t =
-        rw (
-          rows-told component-shape (s .components) (readInto feed b .components) (left feed b .components) _ (ap (λ (r : Reading). r .components) (t .numbers)) (t .components),
-          rows-told property-shape (s .properties) (readInto feed b .properties) (left feed b .properties) _ (ap (λ (r : Reading). r .properties) (t .numbers)) (t .properties),
-          rows-told parameter-shape (s .parameters) (readInto feed b .parameters) (left feed b .parameters) _ (ap (λ (r : Reading). r .parameters) (t .numbers)) (t .parameters),
-          t .text,
-          ap (λ (r : Reading). r .length) (t .numbers),
-          take-append-seam,
-        )
-        (readable-meets r)
+done-meets feed b e =
+    let w = done-readable feed b e in
+    let t = told-rows (w .2) in
+    rw (t .text, t .components, t .properties, t .parameters) (readable-meets (w .1))

@@ -1,5 +1,6 @@
 -- More room (document 01, "What each number returns and leaves"): where room was not what was missing, more of it changes nothing; the
--- answers 2 and 10 are given exactly where room is missing; and the length and the counts that they name suffice. Assumes nothing.
+-- answers 2 and 10 are given exactly where room is missing; the length and the counts that they name suffice; and what each refusal leaves.
+-- Assumes nothing.
 use mathlib.Core.Path.{_≡_, refl, ap}
 use mathlib.Core.Bool.{false}
 use mathlib.Core.List.{List}
@@ -11,6 +12,7 @@ use lib.ListN.{length}
 use lib.Dec.{eqb}
 use borrow.Author.Tests.{le-leb, lt-leb, ne-eqb}
 use Rattle.octets.specs.Answers.{longest, done, noTextRoom, noRoom}
+use Rattle.octets.proofs.Laid.{whole}
 use Rattle.unfolding.specs.Unfold.{unfolded}
 use Rattle.tables.specs.Rows.{componentSize, propertySize, parameterSize}
 use Rattle.tables.proofs.Laws.{component-shape, property-shape, parameter-shape}
@@ -23,8 +25,8 @@ use Rattle.reading.specs.declared.Reading.{Reading}
 use Rattle.demands.specs.Readable.{Readable}
 use Rattle.tables.specs.Lent.{Lent}
 use Rattle.reading.specs.Lent.{roomIn, readInto, left}
-use Rattle.demands.specs.Lent.{Longer}
-use Rattle.demands.specs.Room.{countsIn, AtMost, Exceeds, SameLeft}
+use Rattle.demands.specs.Lent.{Roomier, textOnly}
+use Rattle.demands.specs.Room.{countsIn, AtMost, Exceeds, SameLeft, Suffices}
 use Rattle.demands.proofs.Cases.{Answered, cases, exactly}
 use Rattle.demands.proofs.Cases.Answered.{too-long, no-text-room, not-readable, no-room, all-read}
 use Rattle.demands.proofs.Fronts.{untouched, same-laid, same-rows}
@@ -62,15 +64,7 @@ module _ (feed : List ℕ) (t t′ : ℕ) (room room′ : Counts) (text : t ≤ 
       → readingOf feed t′ room′ ≡ readingOf feed t room
   same-numbers two ten = exactly feed t′ room′ (kept (cases feed t room) two ten)
 
-module _ (feed : List ℕ) (b b′ : Lent) (longer : Longer b b′) where
-  more-rows : AtMost (roomIn b) (roomIn b′)
-  more-rows =
-      record {
-        components = omega (arith, longer .components);
-        properties = omega (arith, longer .properties);
-        parameters = omega (arith, longer .parameters);
-      }
-
+module _ (feed : List ℕ) (b b′ : Lent) (roomier : Roomier b b′) where
   leaves : {r : Reading} → Answered feed (length (b .text)) (roomIn b) r → (r .answer ≡ noTextRoom → ⊥) → (r .answer ≡ noRoom → ⊥)
       → readInto feed b ≡ r → readInto feed b′ ≡ r → SameLeft r b (left feed b) b′ (left feed b′)
   unfolding textAfter
@@ -84,7 +78,7 @@ module _ (feed : List ℕ) (b b′ : Lent) (longer : Longer b b′) where
       })
   leaves (no-text-room h l) two ten e e′ = absurd (two refl)
   leaves (not-readable h l r place x) two ten e e′ =
-      let l′ : length (unfolded feed) ≤ length (b′ .text) = le-trans l (longer .text) in
+      let l′ : length (unfolded feed) ≤ length (b′ .text) = le-trans l (roomier .text) in
       let n : eqb (numberOf r) done ≡ false = ne-eqb (numberOf r) done (λ z. omega (arith, refusal-number r)) in
       rw (le-leb _ _ h, le-leb _ _ l, le-leb _ _ l′, e, e′, n)
       (record {
@@ -95,8 +89,8 @@ module _ (feed : List ℕ) (b b′ : Lent) (longer : Longer b b′) where
       })
   leaves (no-room s r l x) two ten e e′ = absurd (ten refl)
   leaves (all-read s r l a) two ten e e′ =
-      let l′ : length (unfolded feed) ≤ length (b′ .text) = le-trans l (longer .text) in
-      let a′ = more a more-rows in
+      let l′ : length (unfolded feed) ≤ length (b′ .text) = le-trans l (roomier .text) in
+      let a′ = more a (roomier .rows) in
       rw (le-leb _ _ (r .short), le-leb _ _ l, le-leb _ _ l′, e, e′, r .reads)
       (record {
         text = same-laid (unfolded feed) (b .text) (b′ .text) l l′;
@@ -109,7 +103,7 @@ module _ (feed : List ℕ) (b b′ : Lent) (longer : Longer b b′) where
   pub same-reading : (readInto feed b .answer ≡ noTextRoom → ⊥) → (readInto feed b .answer ≡ noRoom → ⊥)
       → (readInto feed b′ ≡ readInto feed b) × SameLeft (readInto feed b) b (left feed b) b′ (left feed b′)
   same-reading two ten =
-      let e = same-numbers feed (length (b .text)) (length (b′ .text)) (roomIn b) (roomIn b′) (longer .text) more-rows two ten in
+      let e = same-numbers feed (length (b .text)) (length (b′ .text)) (roomIn b) (roomIn b′) (roomier .text) (roomier .rows) two ten in
       (e, leaves (cases feed (length (b .text)) (roomIn b)) two ten refl e)
 
 -- ---- 2 and 10 are given exactly where room is missing
@@ -171,6 +165,23 @@ module _ (feed : List ℕ) (t : ℕ) (room : Counts) where
         → readingOf feed t′ room′ ≡ told done 0 (readingOf feed t room .length) (countsIn (readingOf feed t room))
     counts-suffice = named (cases feed t room)
 
+-- on 10 the text fits
+fitted : (feed : List ℕ) (t : ℕ) (room : Counts) {r : Reading} → Answered feed t room r → r .answer ≡ noRoom → r .length ≤ t
+fitted feed t room (too-long h) e = absurd (omega arith)
+fitted feed t room (no-text-room h l) e = absurd (omega arith)
+fitted feed t room (not-readable h l r place x) e = absurd (omega (arith, refusal-number r))
+fitted feed t room (no-room s r l x) e = l
+fitted feed t room (all-read s r l a) e = absurd (omega arith)
+
+-- the refusals for room name what is enough
+pub refusals-suffice : (feed : List ℕ) (b : Lent) → Suffices feed b
+refusals-suffice feed b = record {
+  two = λ e b′ h e′. length-suffices feed (length (b .text)) (roomIn b) (length (b′ .text)) (roomIn b′) e h e′;
+  ten = λ e b′ h a.
+      counts-suffice feed (length (b .text)) (roomIn b) (length (b′ .text)) (roomIn b′) e
+      (le-trans (fitted feed (length (b .text)) (roomIn b) (cases feed (length (b .text)) (roomIn b)) e) h) a;
+}
+
 -- tables of exactly so many rows have that room
 exact-room : (c : Counts) → roomFor (componentSize * c .components) (propertySize * c .properties) (parameterSize * c .parameters) ≡ c
 exact-room c =
@@ -180,12 +191,47 @@ exact-room c =
       mul-div-cancel-left (c .parameters) (parameter-shape .some),
     )
 
--- exactly the text and the rows that 10 names
+-- exactly the rows that 10 names, with a text that is long enough: the same one, or one of just the length told
 pub exact-suffices : (feed : List ℕ) (b b′ : Lent) → readInto feed b .answer ≡ noRoom
-    → length (b′ .text) ≡ readInto feed b .length → length (b′ .components) ≡ componentSize * readInto feed b .components
+    → readInto feed b .length ≤ length (b′ .text) → length (b′ .components) ≡ componentSize * readInto feed b .components
     → length (b′ .properties) ≡ propertySize * readInto feed b .properties → length (b′ .parameters) ≡ parameterSize * readInto feed b .parameters
     → readInto feed b′ ≡ told done 0 (readInto feed b .length) (countsIn (readInto feed b))
 exact-suffices feed b b′ e t c p q =
     let room : roomIn b′ ≡ countsIn (readInto feed b) = rw (c, p, q) (exact-room (countsIn (readInto feed b))) in
-    counts-suffice feed (length (b .text)) (roomIn b) (length (b′ .text)) (roomIn b′) e (omega arith)
+    counts-suffice feed (length (b .text)) (roomIn b) (length (b′ .text)) (roomIn b′) e t
     (rw room (record { components = le-refl _; properties = le-refl _; parameters = le-refl _ }))
+
+-- ---- what a refusal leaves
+
+module _ (feed : List ℕ) (b : Lent) where
+  nothing-laid : {r : Reading} → Answered feed (length (b .text)) (roomIn b) r → 0 < r .answer → r .answer ≤ noTextRoom → readInto feed b ≡ r → left feed b ≡ b
+  unfolding textAfter
+  nothing-laid (too-long h) some few e = rw (lt-leb _ _ h, e)
+  nothing-laid (no-text-room h l) some few e = rw (le-leb _ _ h, lt-leb _ _ l, e)
+  nothing-laid (not-readable h l r place x) some few e = absurd (omega (arith, refusal-number r))
+  nothing-laid (no-room s r l x) some few e = absurd (omega arith)
+  nothing-laid (all-read s r l a) some few e = absurd (omega arith)
+
+  text-laid : {r : Reading} → Answered feed (length (b .text)) (roomIn b) r → noTextRoom < r .answer → readInto feed b ≡ r → left feed b ≡ textOnly feed b
+  unfolding textAfter
+  text-laid (too-long h) many e = absurd (omega arith)
+  text-laid (no-text-room h l) many e = absurd (omega arith)
+  text-laid (not-readable h l r place x) many e =
+      let n : eqb (numberOf r) done ≡ false = ne-eqb (numberOf r) done (λ z. omega (arith, refusal-number r)) in
+      rw (le-leb _ _ h, le-leb _ _ l, e, n, whole (unfolded feed) (b .text) l)
+  text-laid (no-room s r l x) many e = rw (le-leb _ _ (r .short), le-leb _ _ l, e, whole (unfolded feed) (b .text) l)
+  text-laid (all-read s r l a) many e = absurd (omega arith)
+
+  -- "Refusals 1 and 2 change nothing lent"
+  pub one-two-leave : 0 < readInto feed b .answer → readInto feed b .answer ≤ noTextRoom → left feed b ≡ b
+  one-two-leave some few = nothing-laid (cases feed (length (b .text)) (roomIn b)) some few refl
+
+  -- "3 to 10 leave the unfolded text at the front of the text buffer, the bytes behind it as they were, and no table word changed"
+  pub three-ten-leave : noTextRoom < readInto feed b .answer → left feed b ≡ textOnly feed b
+  three-ten-leave many = text-laid (cases feed (length (b .text)) (roomIn b)) many refl
+
+  pub two-leaves : readInto feed b .answer ≡ noTextRoom → left feed b ≡ b
+  two-leaves e = one-two-leave (omega arith) (omega arith)
+
+  pub ten-leaves : readInto feed b .answer ≡ noRoom → left feed b ≡ textOnly feed b
+  ten-leaves e = three-ten-leave (omega arith)

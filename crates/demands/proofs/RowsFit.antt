@@ -32,7 +32,7 @@ use Rattle.demands.proofs.Chains.{chain, chain-depth, Falling, Last, pa
 both : {a b : Bool} → a ≡ true → b ≡ true → (a && b) ≡ true
 both p q = rw (p, q)
 
-its-property : (m : ℕ) (k : Span) (v : Value) → parameterWith m k v .property ≡ m
+pub its-property : (m : ℕ) (k : Span) (v : Value) → parameterWith m k v .property ≡ m
 its-property m k Absent = refl
 its-property m k (Present s) = refl
 

@@ -1,6 +1,11 @@
 pub mod Lent
 pub mod Readable
+pub mod LineGrammar
+pub mod Grammar
 pub mod Room
 pub mod Outputs
 pub mod Writable
+pub mod Returning
+pub mod GrammarRefusals
 pub mod Examples
+pub mod Calls

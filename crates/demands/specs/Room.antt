@@ -4,8 +4,11 @@ use Prim.Native.Nat.{ℕ, _*_, _≤_, _<_}
 use mathlib.Core.Path.{_≡_}
 use mathlib.Core.List.{List}
 use lib.ListN.{length, take, drop}
+use Rattle.octets.specs.Answers.{done, noTextRoom, noRoom}
 use Rattle.tables.specs.Rows.{componentSize, propertySize, parameterSize}
 use Rattle.nesting.specs.declared.Counts.{Counts}
+use Rattle.reading.specs.Answers.{told}
+use Rattle.reading.specs.Lent.{roomIn, readInto}
 use Rattle.reading.specs.declared.Reading.{Reading}
 use Rattle.tables.specs.Lent.{Lent}
 
@@ -39,3 +42,10 @@ pub record SameLeft (r : Reading) (b new b′ new′ : Lent) : Type 0 where
   pub components : SameFront (componentSize * r .components) (b .components) (new .components) (b′ .components) (new′ .components)
   pub properties : SameFront (propertySize * r .properties) (b .properties) (new .properties) (b′ .properties) (new′ .properties)
   pub parameters : SameFront (parameterSize * r .parameters) (b .parameters) (new .parameters) (b′ .parameters) (new′ .parameters)
+
+-- what a refusal for room names is enough: where 2 is answered, no text of that length is refused with 2 again; where 10 is answered, the same
+-- text or a longer one, with these counts as rows, gives Done with just them
+pub record Suffices (feed : List ℕ) (b : Lent) : Type 0 where
+  pub two : readInto feed b .answer ≡ noTextRoom → (b′ : Lent) → readInto feed b .length ≤ length (b′ .text) → readInto feed b′ .answer ≡ noTextRoom → ⊥
+  pub ten : readInto feed b .answer ≡ noRoom → (b′ : Lent) → length (b .text) ≤ length (b′ .text) → AtMost (countsIn (readInto feed b)) (roomIn b′)
+      → readInto feed b′ ≡ told done 0 (readInto feed b .length) (countsIn (readInto feed b))

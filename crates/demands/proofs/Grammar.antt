@@ -1,0 +1,267 @@
+-- What the steps over the lines read is a calendar by the grammar with the same rows, what they refuse is broken by the grammar with the same number and
+-- place, and the other way round. Assumes nothing.
+use mathlib.Core.Path.{_≡_, refl, sym, ap, subst, _∙_}
+use mathlib.Core.Bool.{Bool, true, false}
+use mathlib.Core.List.{List, [], _∷_, _++_, append-nil}
+use mathlib.Core.Logic.{_↔_}
+use Prim.Native.Nat.{ℕ, suc, _+_, _≤_, _<_}
+use native.Mathlib.Omega.{arith}
+use lib.ListN.{length, length-append}
+use lib.Dec.{eqb}
+use borrow.Author.Tests.{eqb-true, eqb-false, ne-eqb}
+use Rattle.octets.specs.Choice.{pick}
+use Rattle.unfolding.specs.Unfold.{unfolded}
+use Rattle.lines.specs.Split.{Placed, linesFrom}
+use Rattle.lines.specs.Rule.{lineOf}
+use Rattle.lines.proofs.Rule.{is-empty}
+use Rattle.tables.specs.declared.ComponentRow.{ComponentRow}
+use Rattle.nesting.specs.Steps.{State, nothing, checkOf, after, Run, finished, stopped, onward, run, runOf, countsOf, endedAt, judged, outcomeOf}
+use Rattle.nesting.specs.declared.Check.{Check}
+use Rattle.nesting.specs.declared.Entry.{Entry}
+use Rattle.nesting.specs.declared.Outcome.the-variants.{Read, Refused}
+use Rattle.nesting.specs.declared.Refusal.{Refusal}
+use Rattle.tables.specs.Lent.{Lent}
+use Rattle.reading.specs.Answers.{numberOf, refusal}
+use Rattle.reading.specs.Lent.{roomIn, readInto}
+use Rattle.reading.specs.declared.Reading.{Reading}
+use Rattle.demands.specs.Readable.{Readable}
+use Rattle.demands.specs.Returning.{All}
+use Rattle.demands.specs.Grammar.{line, Lines, noRow, Rows, noRows, opened, withComponent, Body, no-line, empty-line, a-property, a-component, Calendar}
+use Rattle.demands.specs.GrammarRefusals.{Begun, in-this, in-another, Broken, at-line, unclosed, no-component}
+use Rattle.demands.proofs.Cases.{Answered, cases, exactly}
+use Rattle.demands.proofs.Cases.Answered.{too-long, no-text-room, not-readable, no-room, all-read}
+use Rattle.demands.proofs.SaidBreaks.{lines-are, lines-found}
+use Rattle.demands.proofs.SaidNesting.{In, lines-in, state, rows, innermost, left-of, begun-of, all-front, passed, body-reads, Leaves, begun-reads}
+use Rattle.demands.proofs.SaidRefusals.{refuses, refused-by}
+
+-- ---- what the grammar has of a body
+
+-- lines that leave nothing open that was not open before are a body
+begun-depth : {depth owner depth′ : ℕ} {name name′ : List ℕ} {r r′ : Rows} {ls : List Placed} → Begun depth owner name r ls depth′ name′ r′ → depth ≤ depth′
+begun-depth (in-this b) = omega arith
+begun-depth (in-another at b d o more) = omega (arith, begun-depth more)
+
+begun-body : {depth owner depth′ : ℕ} {name name′ : List ℕ} {r r′ : Rows} {ls : List Placed} → Begun depth owner name r ls depth′ name′ r′ → depth′ ≡ depth
+    → Body depth owner r ls r′
+begun-body (in-this b) e = b
+begun-body (in-another at b d o more) e = absurd (omega (arith, begun-depth more))
+
+-- a body takes no row away, and a component adds one
+one-more : (r : Rows) (c : ComponentRow) → length (withComponent r c .components) ≡ length (r .components) + 1
+one-more r c = length-append (r .components) (c ∷ [])
+
+body-more : {depth owner : ℕ} {r r′ : Rows} {ls : List Placed} → Body depth owner r ls r′ → length (r .components) ≤ length (r′ .components)
+body-more no-line = omega arith
+body-more (empty-line b) = body-more b
+body-more (a-property h p b) = body-more b
+body-more (a-component at at′ {depth = depth} {owner = owner} {name = name} {r = r} d o b c later) =
+    omega (arith, body-more b, body-more later, one-more r (opened owner (suc depth) at name))
+
+abbrev Blank : List Placed → Type 0
+Blank ls = All (λ (l : Placed). l .content ≡ []) ls
+
+-- outside of all components a body without components is of empty lines
+body-blank : {depth owner : ℕ} {r r′ : Rows} {ls : List Placed} → Body depth owner r ls r′ → depth ≡ 0 → length (r′ .components) ≤ length (r .components) → Blank ls
+unfolding All
+body-blank no-line z h = tt
+body-blank (empty-line b) z h = (refl, body-blank b z h)
+body-blank (a-property some p b) z h = absurd (omega arith)
+body-blank (a-component at at′ {depth = depth} {owner = owner} {name = name} {r = r} d o b c later) z h =
+    absurd (omega (arith, body-more b, body-more later, one-more r (opened owner (suc depth) at name)))
+
+-- ---- the lines of a text
+
+module _ (text : List ℕ) where
+  abbrev lines : List Placed
+  lines = linesFrom 0 text
+
+  lines-split : Lines 0 text lines
+  lines-split = lines-found (length text) 0 text (omega arith)
+
+  all-in : All (In text) lines
+  all-in = lines-in text [] 0 0 text refl refl
+
+  -- the lines that the grammar has are those of the reading
+  split-in : {ls : List Placed} → Lines 0 text ls → All (In text) ls
+  split-in l = subst (All (In text)) (lines-are l) all-in
+
+  run-split : {ls : List Placed} → Lines 0 text ls → runOf text ≡ run text ls nothing
+  run-split l = ap (λ (ls : List Placed). run text ls nothing) (lines-are l)
+
+  -- lines that are read from the start on
+  begun-from : (ls : List Placed) → All (In text) ls → (s : State) → run text ls nothing ≡ finished s
+      → Begun 0 noRow [] noRows ls (length (s .opens)) (innermost text (s .opens)) (rows s)
+  begun-from ls i s e = begun-of text (left-of text ls i [] noRows s e)
+
+  -- ---- what is read
+
+  -- to the end with nothing open: a body outside of all components, with the same rows
+  pub reads-body : (r : Rows) → (runOf text ≡ finished (state [] r)) ↔ Body 0 noRow noRows lines r
+  unfolding run
+  reads-body r = (
+    λ e. begun-body (begun-from lines all-in (state [] r) e) refl,
+    λ b. rw append-nil at (body-reads text b [] refl refl all-in []),
+  )
+
+  calendar-reads : {r : Rows} → Calendar text r → runOf text ≡ finished (state [] r)
+  calendar-reads {r} c = reads-body r .1 (subst (λ (ls : List Placed). Body 0 noRow noRows ls r) (sym (lines-are (c .split))) (c .body))
+
+  reads-calendar : {r : Rows} → runOf text ≡ finished (state [] r) → 0 < length (r .components) → Calendar text r
+  reads-calendar {r} e some = record { lines = lines; split = lines-split; body = reads-body r .0 e; some = some }
+
+  -- ---- what is refused at a line
+
+  -- the lines before it are read, and its check refuses it
+  record Stopped (ls : List Placed) (s : State) (x : Refusal) (place : ℕ) : Type 0 where
+    before : List Placed
+    here : Placed
+    behind : List Placed
+    last : State
+    is : ls ≡ before ++ here ∷ behind
+    reads : run text before s ≡ finished last
+    refused : checkOf text (here .content) (lineOf (here .content)) (last .opens) ≡ Check.Bad x
+    at : here .start ≡ place
+
+  stops : (ls : List Placed) (s : State) (x : Refusal) (place : ℕ) → run text ls s ≡ stopped x place → Stopped ls s x place
+  unfolding run
+  stops [] s x place e = absurd (let z : _≡_ {A = ℕ} 0 1 = cc in omega arith)
+  stops (l ∷ ls) s x place e =
+      go (checkOf text (l .content) (lineOf (l .content)) (s .opens)) refl e
+      (stops ls (after (l .start) (l .content) (lineOf (l .content)) s) x place)
+    where
+      next : State
+      next = after (l .start) (l .content) (lineOf (l .content)) s
+
+      go : (c : Check) → checkOf text (l .content) (lineOf (l .content)) (s .opens) ≡ c → onward c (l .start) (run text ls next) ≡ stopped x place
+          → (run text ls next ≡ stopped x place → Stopped ls next x place) → Stopped (l ∷ ls) s x place
+      go Check.Fine c e ih =
+          let w = ih e in
+          record {
+            before = l ∷ w .before;
+            here = w .here;
+            behind = w .behind;
+            last = w .last;
+            is = ap (_∷_ l) (w .is);
+            reads = passed text l (w .before) s refl c ∙ w .reads;
+            refused = w .refused;
+            at = w .at;
+          }
+      go (Check.Bad y) c e ih =
+          let same : y ≡ x = cc in
+          record { before = []; here = l; behind = ls; last = s; is = refl; reads = refl; refused = c ∙ ap Check.Bad same; at = cc }
+
+  stopped-broken : (x : Refusal) (place : ℕ) → runOf text ≡ stopped x place → Broken text (numberOf x) place
+  stopped-broken x place e =
+      let w = stops lines nothing x place e in
+      let before-in = all-front (In text) (w .before) (w .here ∷ w .behind) (subst (All (In text)) (w .is) all-in) in
+      subst (Broken text (numberOf x)) (w .at)
+      (at-line (w .behind) (subst (Lines 0 text) (w .is) lines-split) (begun-from (w .before) before-in (w .last) (w .reads))
+      (refuses text (w .here .content) (w .last .opens) x (w .refused)))
+
+  -- ---- what is refused at the end
+
+  -- nothing, an Unclosed or a NoComponent by what is open and what there is
+  ended-broken : (s : State) → runOf text ≡ finished s → (x : Refusal) (place : ℕ) → endedAt (length (s .opens)) (countsOf s) (length text) ≡ Refused x place
+      → Broken text (numberOf x) place
+  ended-broken s e x place o = go (eqb (length (s .opens)) 0) (eqb (length (s .components)) 0) refl refl o
+    where
+      b : Begun 0 noRow [] noRows lines (length (s .opens)) (innermost text (s .opens)) (rows s)
+      b = begun-from lines all-in s e
+
+      told : {y : Refusal} → Refused y (length text) ≡ Refused x place → Broken text (numberOf y) (length text) → Broken text (numberOf x) place
+      told {y} q w =
+          let same : y ≡ x = cc in
+          let there : length text ≡ place = cc in
+          subst (Broken text (numberOf x)) there (subst (λ (z : Refusal). Broken text (numberOf z) (length text)) same w)
+
+      go : (t u : Bool) → eqb (length (s .opens)) 0 ≡ t → eqb (length (s .components)) 0 ≡ u
+          → pick t (pick u (Refused Refusal.NoComponent (length text)) (Read (countsOf s))) (Refused Refusal.Unclosed (length text)) ≡ Refused x place
+          → Broken text (numberOf x) place
+      go true true p q o =
+          let body = begun-body b (eqb-true (length (s .opens)) 0 p) in
+          told o (no-component lines-split (body-blank body refl (omega (arith, eqb-true (length (s .components)) 0 q))))
+      go true false p q o = absurd (let z : _≡_ {A = ℕ} 0 1 = cc in omega arith)
+      go false u p q o = told o (unclosed lines-split b (omega (arith, eqb-false (length (s .opens)) 0 p)))
+
+  -- ---- and the other way round
+
+  -- empty lines add nothing
+  blank-reads : (ls : List Placed) (s : State) → Blank ls → run text ls s ≡ finished s
+  unfolding run All
+  blank-reads [] s b = refl
+  blank-reads (l ∷ ls) s b =
+      passed text l ls s (ap lineOf (b .0) ∙ is-empty [] refl) refl ∙ blank-reads ls s (b .1)
+
+  outcome-is : {r : Run} → runOf text ≡ r → outcomeOf text ≡ judged r (length text)
+  unfolding outcomeOf
+  outcome-is e = ap (λ (r : Run). judged r (length text)) e
+
+  -- what is read from the start on leaves this
+  leaves : {ls : List Placed} {depth : ℕ} {name : List ℕ} {r : Rows} → All (In text) ls → Begun 0 noRow [] noRows ls depth name r
+      → Leaves text ls nothing depth name r
+  leaves i b = begun-reads text b [] refl refl refl i
+
+  broken-refused : {number place : ℕ} → Broken text number place → (x : Refusal) × (outcomeOf text ≡ Refused x place) × (numberOf x ≡ number)
+  unfolding run
+  broken-refused (at-line {at = at} {content = content} {before = before} behind l b w) =
+      let left = leaves (all-front (In text) before (line at content ∷ behind) (split-in l)) b in
+      let x = refused-by text content w (left .opens) (left .many) (left .named) in (
+        x .0,
+        outcome-is {r = stopped (x .0) at} (run-split l ∙ left .reads (line at content ∷ behind) ∙ rw (x .1)),
+        x .2,
+      )
+  broken-refused (unclosed {ls = ls} l b some) =
+      let left = leaves (split-in l) b in (
+        Refusal.Unclosed,
+        outcome-is (run-split l ∙ ap (λ (ls : List Placed). run text ls nothing) (sym (append-nil ls)) ∙ left .reads [])
+            ∙ rw (ne-eqb (length (left .opens)) 0 (λ z. omega (arith, left .many))),
+        refl,
+      )
+  broken-refused (no-component {ls = ls} l b) = (Refusal.NoComponent, outcome-is (run-split l ∙ blank-reads ls nothing b), refl)
+
+  -- a text is refused with a number and a place exactly where it is broken so by the grammar
+  pub refused-broken : (number place : ℕ) → ((x : Refusal) × (outcomeOf text ≡ Refused x place) × (numberOf x ≡ number)) ↔ Broken text number place
+  refused-broken number place = (λ w. subst (λ (n : ℕ). Broken text n place) (w .2) (to (w .0) (w .1)), broken-refused)
+    where
+      to : (x : Refusal) → outcomeOf text ≡ Refused x place → Broken text (numberOf x) place
+      to x o = go (runOf text) refl
+        where
+          go : (r : Run) → runOf text ≡ r → Broken text (numberOf x) place
+          go (finished s) e = ended-broken s e x place (sym (outcome-is e) ∙ o)
+          go (stopped y at) e =
+              let q : Refused y at ≡ Refused x place = sym (outcome-is e) ∙ o in
+              let same : y ≡ x = cc in
+              let there : at ≡ place = cc in
+              stopped-broken x place (rw (same, there) at e)
+
+-- a feed is readable exactly where it is within the byte limit and its unfolded text is a calendar, with the same rows
+pub readable-calendar : (feed : List ℕ) (s : State) → Readable feed s ↔ ((length feed ≤ 1048576) × Calendar (unfolded feed) (rows s) × (s .opens ≡ []))
+readable-calendar feed s = (
+  λ w.
+      (w .short, reads-calendar (unfolded feed) (w .reads ∙ ap (λ (es : List Entry). finished (state es (rows s))) (w .closed)) (w .some), w .closed),
+  λ w. record {
+    short = w .0;
+    reads = calendar-reads (unfolded feed) (w .1) ∙ ap (λ (es : List Entry). finished (state es (rows s))) (sym (w .2));
+    closed = w .2;
+    some = w .1 .some;
+  },
+)
+
+-- where the feed is within the byte limit and its unfolded text has room, a text that is broken is answered with its number and place
+pub broken-answered : (feed : List ℕ) (b : Lent) {number place : ℕ} → length feed ≤ 1048576 → length (unfolded feed) ≤ length (b .text)
+    → Broken (unfolded feed) number place → readInto feed b ≡ refusal number place (length (unfolded feed))
+broken-answered feed b {number} {place} h t w =
+    let x = refused-broken (unfolded feed) number place .1 w in
+    rw (x .2) at (exactly feed (length (b .text)) (roomIn b) (not-readable h t (x .0) place (x .1)))
+
+-- and an answer from 3 to 9 is given to a broken text only, with its number and place
+pub answered-broken : (feed : List ℕ) (b : Lent) → 2 < readInto feed b .answer → readInto feed b .answer < 10
+    → Broken (unfolded feed) (readInto feed b .answer) (readInto feed b .place)
+answered-broken feed b = go (cases feed (length (b .text)) (roomIn b))
+  where
+    go : {r : Reading} → Answered feed (length (b .text)) (roomIn b) r → 2 < r .answer → r .answer < 10 → Broken (unfolded feed) (r .answer) (r .place)
+    go (too-long h) l u = absurd (omega arith)
+    go (no-text-room h t) l u = absurd (omega arith)
+    go (not-readable h t x place o) l u = refused-broken (unfolded feed) (numberOf x) place .0 (x, o, refl)
+    go (no-room s r t x) l u = absurd (omega arith)
+    go (all-read s r t a) l u = absurd (omega arith)

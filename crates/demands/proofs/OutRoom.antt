@@ -1,0 +1,183 @@
+-- Room for the output of a fold, of quoting and of the writer: where it was not what was missing, more of it changes nothing; 13 is told exactly
+-- where it is missing; the length told suffices; and what each answer leaves. One law for all of them. Assumes nothing.
+use mathlib.Core.Path.{_≡_, refl, ap, sym, _∙_}
+use mathlib.Core.Bool.{Bool, true, false}
+use mathlib.Core.List.{List, _++_}
+use Prim.Native.Nat.{ℕ, _≤_, _<_}
+use native.Mathlib.Nat.{le-trans}
+use native.Mathlib.Omega.{arith}
+use lib.ListN.{length, drop}
+use lib.Dec.{eqb, leb}
+use borrow.Author.Tests.{le-leb, lt-leb, ne-eqb, leb-true, leb-false, eqb-true, eqb-false}
+use Rattle.octets.specs.Choice.{pick}
+use Rattle.octets.specs.Bytes.{lf, other}
+use Rattle.octets.specs.Runs.{run, only}
+use Rattle.octets.specs.Answers.{longest, done, tooLong, hasBreak, notAscii, noOutRoom, badTable, unwritable, output, roomAnswer, outAfter}
+use Rattle.octets.specs.declared.Output.{Output}
+use Rattle.octets.proofs.Laid.{whole}
+use Rattle.folding.specs.Answers.{ascii, lineAnswer, foldAnswer}
+use Rattle.quoting.specs.Quoting.{quoted}
+use Rattle.quoting.specs.Answers.{quoteAnswer}
+use Rattle.tables.specs.Lent.{Lent, brokenIn}
+use Rattle.tables.specs.declared.Found.{Found}
+use Rattle.tables.specs.declared.Found.the-variants.{Nothing, At}
+use Rattle.writable.specs.WritingRule.{judgedIn}
+use Rattle.writable.specs.declared.Judged.{Judged}
+use Rattle.writing.specs.Answers.{writtenIn, byTableRule, byWritingRule, byLength, writeAnswer}
+use Rattle.demands.specs.Outputs.{FitTables, RoomDecides}
+use Rattle.demands.proofs.Fronts.{untouched, same-laid}
+
+-- a refusal that is not for room
+record Fixed (o : Output) : Type 0 where
+  not-done : o .answer ≡ done → ⊥
+  not-room : o .answer ≡ noOutRoom → ⊥
+  nothing : o .length ≡ 0
+
+fixed : (answer place : ℕ) → (answer ≡ done → ⊥) → (answer ≡ noOutRoom → ⊥) → Fixed (output answer place 0)
+fixed answer place n m = record { not-done = n; not-room = m; nothing = refl }
+
+-- either it is refused whatever the room, or room decides
+data ByRoom (Fine : Type 0) (needed : ℕ) (answer : ℕ → Output) : Type 0 where
+  refused : (o : Output) → Fixed o → (Fine → ⊥) → ((room : ℕ) → answer room ≡ o) → ByRoom Fine needed answer
+  decided : Fine → ((room : ℕ) → answer room ≡ roomAnswer needed room) → ByRoom Fine needed answer
+
+module _ (Fine : Type 0) (bytes : List ℕ) (answer : ℕ → Output) where
+  -- a refusal leaves the buffer as it was
+  unwritten : (old : List ℕ) → (answer (length old) .answer ≡ done → ⊥) → outAfter (answer (length old)) bytes old ≡ old
+  unwritten old n = rw (ne-eqb (answer (length old) .answer) done n)
+
+  -- ---- a refusal that is not for room
+
+  module _ (o : Output) (always : Fixed o) (not-fine : Fine → ⊥) (is : (room : ℕ) → answer room ≡ o) where
+    unchanged : (old : List ℕ) → outAfter (answer (length old)) bytes old ≡ old
+    unchanged old = unwritten old (λ e. always .not-done (rw (is (length old)) at e))
+
+    no-thirteen : (room : ℕ) → answer room .answer ≡ noOutRoom → ⊥
+    no-thirteen room e = always .not-room (rw (is room) at e)
+
+    as-refused : RoomDecides Fine bytes answer
+    as-refused = record {
+      more = λ old old′ h n. (
+        is (length old′) ∙ sym (is (length old)),
+        rw (unchanged old, unchanged old′, is (length old), always .nothing) (untouched old old′),
+      );
+      exactly = λ room. (λ e. absurd (no-thirteen room e), λ w. absurd (not-fine (w .0)));
+      needed = λ room e. absurd (no-thirteen room e);
+      suffices = λ room room′ e h. absurd (no-thirteen room e);
+      otherwise = λ room n m. rw (is room) (always .nothing);
+      refused = unwritten;
+      written = λ old e. absurd (always .not-done (rw (is (length old)) at e));
+    }
+
+  -- ---- room decides
+
+  module _ (fine : Fine) (is : (room : ℕ) → answer room ≡ roomAnswer (length bytes) room) where
+    -- what fits is Done, and what does not is 13, both with the length of all bytes
+    enough : (room : ℕ) → length bytes ≤ room → answer room ≡ output done 0 (length bytes)
+    enough room h = is room ∙ rw (le-leb (length bytes) room h)
+
+    too-little : (room : ℕ) → room < length bytes → answer room ≡ output noOutRoom 0 (length bytes)
+    too-little room h = is room ∙ rw (lt-leb (length bytes) room h)
+
+    -- so 13 says that something is missing
+    missing : (room : ℕ) → answer room .answer ≡ noOutRoom → room < length bytes
+    missing room e = go (leb (length bytes) room) refl
+      where
+        go : (t : Bool) → leb (length bytes) room ≡ t → room < length bytes
+        go true h = absurd (omega (arith, rw (enough room (leb-true _ _ h)) at e))
+        go false h = leb-false _ _ h
+
+    -- and any other answer that nothing is
+    there : (room : ℕ) → (answer room .answer ≡ noOutRoom → ⊥) → length bytes ≤ room
+    there room n = go (leb (length bytes) room) refl
+      where
+        go : (t : Bool) → leb (length bytes) room ≡ t → length bytes ≤ room
+        go true h = leb-true _ _ h
+        go false h = absurd (n (ap (λ (o : Output). o .answer) (too-little room (leb-false _ _ h))))
+
+    laid-whole : (old : List ℕ) → length bytes ≤ length old → outAfter (answer (length old)) bytes old ≡ bytes ++ drop (length bytes) old
+    laid-whole old h = rw (enough (length old) h) (whole bytes old h)
+
+    as-decided : RoomDecides Fine bytes answer
+    as-decided = record {
+      more = λ old old′ h n.
+          let l = there (length old) n in
+          let l′ : length bytes ≤ length old′ = le-trans l h in
+          (enough (length old′) l′ ∙ sym (enough (length old) l), rw (enough (length old) l, enough (length old′) l′) (same-laid bytes old old′ l l′));
+      exactly = λ room. (λ e. (fine, missing room e), λ w. ap (λ (o : Output). o .answer) (too-little room (w .1)));
+      needed = λ room e. ap (λ (o : Output). o .length) (too-little room (missing room e));
+      suffices = λ room room′ e h.
+          let n : answer room .length ≡ length bytes = ap (λ (o : Output). o .length) (too-little room (missing room e)) in
+          rw n (enough room′ (rw n at h));
+      otherwise = λ room n m. absurd (n (ap (λ (o : Output). o .answer) (enough room (there room m))));
+      refused = unwritten;
+      written = λ old e. laid-whole old (there (length old) (λ z. omega arith));
+    }
+
+  room-decides : ByRoom Fine (length bytes) answer → RoomDecides Fine bytes answer
+  room-decides (refused o always n is) = as-refused o always n is
+  room-decides (decided fine is) = as-decided fine is
+
+-- ---- both folds
+
+module _ (line : List ℕ) where
+  -- a line that is refused whatever the fold
+  line-refused : (lineAnswer line .answer ≡ done → ⊥) → Fixed (lineAnswer line)
+  line-refused n = by (leb (length line) longest) (only (other lf) line) (only ascii line) n
+    where
+      by : (s t u : Bool)
+          → (pick s (pick t (pick u (output done 0 0) (output notAscii (run ascii line) 0)) (output hasBreak (run (other lf) line) 0)) (output tooLong 0 0) .answer ≡ done → ⊥)
+          → Fixed (pick s (pick t (pick u (output done 0 0) (output notAscii (run ascii line) 0)) (output hasBreak (run (other lf) line) 0)) (output tooLong 0 0))
+      by true true true n = absurd (n refl)
+      by true true false n = fixed notAscii (run ascii line) n (λ e. omega arith)
+      by true false u n = fixed hasBreak (run (other lf) line) n (λ e. omega arith)
+      by false t u n = fixed tooLong 0 n (λ e. omega arith)
+
+  pub fold-room : (fold : List ℕ → List ℕ) → RoomDecides (lineAnswer line .answer ≡ done) (fold line) (foldAnswer fold line)
+  fold-room fold = room-decides (lineAnswer line .answer ≡ done) (fold line) (foldAnswer fold line) (go (eqb (lineAnswer line .answer) done) refl)
+    where
+      go : (t : Bool) → eqb (lineAnswer line .answer) done ≡ t → ByRoom (lineAnswer line .answer ≡ done) (length (fold line)) (foldAnswer fold line)
+      go true h = decided (eqb-true _ _ h) (λ room. rw h)
+      go false h = refused (lineAnswer line) (line-refused (eqb-false _ _ h)) (eqb-false _ _ h) (λ room. rw h)
+
+-- ---- quoting
+
+pub quote-room : (value : List ℕ) → RoomDecides (length value ≤ longest) (quoted value) (quoteAnswer value)
+quote-room value = room-decides (length value ≤ longest) (quoted value) (quoteAnswer value) (go (leb (length value) longest) refl)
+  where
+    go : (t : Bool) → leb (length value) longest ≡ t → ByRoom (length value ≤ longest) (length (quoted value)) (quoteAnswer value)
+    go true h = decided (leb-true _ _ h) (λ room. rw h)
+    go false h = refused (output tooLong 0 0) (fixed tooLong 0 (λ e. omega arith) (λ e. omega arith)) (λ n. omega (arith, leb-false (length value) longest h)) (λ room. rw h)
+
+-- ---- the writer
+
+module _ (b : Lent) where
+  answers : {f : Found} {j : Judged} → brokenIn b ≡ f → judgedIn b ≡ j → (room : ℕ)
+      → writeAnswer b room ≡ byTableRule f (byWritingRule j (byLength (length (writtenIn b)) room))
+  unfolding writeAnswer
+  answers x y room = rw (x, y)
+
+  pub write-room : RoomDecides (FitTables b) (writtenIn b) (writeAnswer b)
+  write-room = room-decides (FitTables b) (writtenIn b) (writeAnswer b) (by-table (brokenIn b) refl)
+    where
+      by-length : brokenIn b ≡ Nothing → judgedIn b ≡ Judged.Writable → (t : Bool) → leb (length (writtenIn b)) longest ≡ t
+          → ByRoom (FitTables b) (length (writtenIn b)) (writeAnswer b)
+      by-length x y true h = decided (record { table-rule = x; writing-rule = y; short = leb-true _ _ h }) (λ room. answers x y room ∙ rw h)
+      by-length x y false h =
+          refused (output tooLong 0 0) (fixed tooLong 0 (λ e. omega arith) (λ e. omega arith))
+          (λ f. omega (arith, f .short, leb-false (length (writtenIn b)) longest h)) (λ room. answers x y room ∙ rw h)
+
+      by-rule : brokenIn b ≡ Nothing → (j : Judged) → judgedIn b ≡ j → ByRoom (FitTables b) (length (writtenIn b)) (writeAnswer b)
+      by-rule x Judged.Writable y = by-length x y (leb (length (writtenIn b)) longest) refl
+      by-rule x (Judged.Unwritable row) y =
+          refused (output unwritable row 0) (fixed unwritable row (λ e. omega arith) (λ e. omega arith))
+          (λ f. let z : _≡_ {A = ℕ} 0 1 = cc (y, f .writing-rule) in omega arith) (answers x y)
+      by-rule x (Judged.NotAscii row) y =
+          refused (output notAscii row 0) (fixed notAscii row (λ e. omega arith) (λ e. omega arith))
+          (λ f. let z : _≡_ {A = ℕ} 0 1 = cc (y, f .writing-rule) in omega arith) (answers x y)
+
+      by-table : (f : Found) → brokenIn b ≡ f → ByRoom (FitTables b) (length (writtenIn b)) (writeAnswer b)
+      by-table Nothing x = by-rule x (judgedIn b) refl
+      by-table (At row) x =
+          refused (output badTable row 0) (fixed badTable row (λ e. omega arith) (λ e. omega arith))
+          (λ f. let z : _≡_ {A = ℕ} 0 1 = cc (x, f .table-rule) in omega arith) (answers x refl)

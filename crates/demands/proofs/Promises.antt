@@ -1,0 +1,163 @@
+-- What Hawniretem promises, in one file: open this first. Above each statement stands what it says and, in brackets, the sentences of
+-- docs/SPECIFICATION.md that it answers; docs/COVERAGE.md has the rest of what shows them. Each is proved by naming what stands elsewhere.
+-- Words: `b` is a text and the words of three tables as they are lent (`Lent`); `readInto feed b` are the six numbers of a reading, `left feed b`
+-- what it leaves in b; `toldOf` cuts that to what the numbers tell of; `treesIn b` are the trees that tables stand for.
+-- Assumes nothing.
+use mathlib.Core.Path.{_≡_}
+use mathlib.Core.Bool.{true}
+use mathlib.Core.List.{List, []}
+use mathlib.Core.Logic.{_↔_}
+use Prim.Native.Nat.{ℕ, _≤_, _<_}
+use lib.ListN.{length}
+use Rattle.octets.specs.Bytes.{other}
+use Rattle.octets.specs.Answers.{longest, done, noTextRoom, noRoom}
+use Rattle.unfolding.specs.Unfold.{unfolded}
+use Rattle.unfolding.proofs.Laws.{Unbroken}
+use Rattle.tables.specs.Lent.{Lent, componentsIn, brokenIn, treesIn, treeIn}
+use Rattle.tables.specs.declared.Found.the-variants.{Nothing}
+use Rattle.nesting.specs.Steps.{State, countsOf}
+use Rattle.reading.specs.Answers.{refusal}
+use Rattle.reading.specs.Lent.{roomIn, readInto, left}
+use Rattle.folding.specs.Pieces.{physical, Within}
+use Rattle.folding.specs.Strict.{first, strict, strictPieces, Filled}
+use Rattle.folding.specs.Repository.{repository}
+use Rattle.folding.specs.Answers.{lineAnswer, foldAnswer}
+use Rattle.quoting.specs.Quoting.{quoted}
+use Rattle.quoting.specs.Answers.{quoteAnswer}
+use Rattle.printing.specs.Lines.{written}
+use Rattle.writing.specs.Answers.{writtenIn, writeAnswer, writeOut}
+use Rattle.twins.specs.Answers.{levels, compared, twinsAnswer}
+use Rattle.twins.proofs.Laws.{Asked, Twins, twins-exactly, twin-itself, twin-turned, twin-joined}
+use Rattle.demands.specs.Calls.{Determined}
+use Rattle.demands.specs.Lent.{Roomier, textOnly, toldOf}
+use Rattle.demands.specs.Outputs.{FitTables, RoomDecides, toldBytes}
+use Rattle.demands.specs.Readable.{Readable, ReadTo}
+use Rattle.demands.specs.Room.{AtMost, Exceeds, SameLeft, Suffices}
+use Rattle.demands.specs.Returning.{Enough}
+use Rattle.demands.specs.Grammar.{Calendar}
+use Rattle.demands.specs.GrammarRefusals.{Broken}
+use Rattle.demands.specs.Examples.{starred, allHold}
+use Rattle.demands.proofs.Calls as calls
+use Rattle.demands.proofs.Readable.{readable-done, done-exactly}
+use Rattle.demands.proofs.SaidNesting.{rows}
+use Rattle.demands.proofs.Grammar.{readable-calendar, answered-broken, broken-answered}
+use Rattle.demands.proofs.MeetsRule.{done-meets}
+use Rattle.demands.proofs.MoreRoom.{same-reading, two-exactly, ten-exactly, refusals-suffice, one-two-leave, three-ten-leave}
+use Rattle.demands.proofs.OutRoom.{fold-room, quote-room, write-room}
+use Rattle.demands.proofs.Folds.{strict-unfolds, repository-unfolds, strict-75, strict-full}
+use Rattle.demands.proofs.RoundTrip as trip
+use Rattle.demands.proofs.Examples.{all-starred}
+
+-- ---- Demand 1: every feed, row and buffer gets a definite answer
+
+-- 1. Any two results, and any two contents of what is lent, that the contract of a call allows for the same arguments are equal. That no call asks
+-- anything of its caller is said beside each of them, in `Calls`. [B-72, B-77]
+pub definite : Determined calls.readComponents (λ κs r. r) × Determined calls.writeComponents (λ κs r. r) × Determined calls.compareTwins (λ κs r. r)
+    × Determined calls.foldStrict (λ κs r. r) × Determined calls.foldLine (λ κs r. r) × Determined calls.quoteSpecialChars (λ κs r. r)
+    × Determined calls.parameter (λ κs r. r)
+definite = (
+  calls.read-components-determined,
+  calls.write-components-determined,
+  calls.compare-twins-determined,
+  calls.fold-strict-determined,
+  calls.fold-line-determined,
+  calls.quote-special-chars-determined,
+  calls.parameter-determined,
+)
+
+-- 2. Refusals 1 and 2 of a reading change nothing lent; 3 to 10 leave the unfolded text at the front of the text, the bytes behind it as they were,
+-- and no table word changed. [B-37, B-38]
+pub refusals-leave : (feed : List ℕ) (b : Lent) → (0 < readInto feed b .answer → readInto feed b .answer ≤ noTextRoom → left feed b ≡ b)
+    × (noTextRoom < readInto feed b .answer → left feed b ≡ textOnly feed b)
+refusals-leave feed b = (one-two-leave feed b, three-ten-leave feed b)
+
+-- ---- Demand 2: answers are those of the definitions, and a tree comes back
+
+-- 3. A feed is read, Done, exactly where it is readable and there is room for its text and rows. [B-73]
+pub done-is-readable : (feed : List ℕ) (b : Lent) → (readInto feed b .answer ≡ done)
+    ↔ ((s : State) × Readable feed s × (length (unfolded feed) ≤ length (b .text)) × AtMost (countsOf s) (roomIn b))
+done-is-readable = done-exactly
+
+-- 4. Readable is what the grammar says: a calendar of nested lines, with exactly these rows. [B-54 to B-59, B-73]
+pub readable-is-grammar : (feed : List ℕ) (s : State) → Readable feed s ↔ ((length feed ≤ longest) × Calendar (unfolded feed) (rows s) × (s .opens ≡ []))
+readable-is-grammar = readable-calendar
+
+-- 5. And where the grammar is broken the answer is the number and the place that the grammar gives, for 3 to 9. [B-18 to B-24, B-33]
+pub refused-is-grammar : (feed : List ℕ) (b : Lent)
+    → ((number place : ℕ) → length feed ≤ longest → length (unfolded feed) ≤ length (b .text) → Broken (unfolded feed) number place
+    → readInto feed b ≡ refusal number place (length (unfolded feed)))
+    × (2 < readInto feed b .answer → readInto feed b .answer < 10 → Broken (unfolded feed) (readInto feed b .answer) (readInto feed b .place))
+refused-is-grammar feed b = (λ number place. broken-answered feed b, answered-broken feed b)
+
+-- 6. The numbers, the bytes and the words that a Done reading gives are those of the definition, and read back as they are. [B-73, B-38]
+pub done-gives : (feed : List ℕ) (b : Lent) (s : State) → Readable feed s → length (unfolded feed) ≤ length (b .text) → AtMost (countsOf s) (roomIn b) → ReadTo feed b s
+done-gives feed b = readable-done feed b
+
+-- 7. Every Done reading meets the table rule. [B-70]
+pub reading-meets-rule : (feed : List ℕ) (b : Lent) → readInto feed b .answer ≡ done → brokenIn (toldOf (readInto feed b) (left feed b)) ≡ Nothing
+reading-meets-rule = done-meets
+
+-- 8. Unfolding gives back what either fold made of a line without LF; the strict fold has 75 octets at most in a physical line, and every one but
+-- the last is full. [B-60, B-62]
+pub folds-come-back : (line : List ℕ) → Unbroken line
+    → (unfolded (strict line) ≡ line) × (unfolded (repository line) ≡ line) × Within 75 (physical (strictPieces line)) × Filled first (strictPieces line)
+folds-come-back line w = (strict-unfolds line w, repository-unfolds line w, strict-75 line, strict-full line)
+
+-- 9. The round trip: what the writer accepts, written and then read with room enough, is Done and stands for the same trees. Room enough is as many
+-- bytes as were written, and as many rows as the tables have. [B-69]
+pub round-trip : (b : Lent) (out : List ℕ) → writeAnswer b (length out) .answer ≡ done → (b′ : Lent) → Enough b b′ →
+    let feed = toldBytes (writeAnswer b (length out)) (writeOut b out) in
+    (readInto feed b′ .answer ≡ done) × (treesIn (toldOf (readInto feed b′) (left feed b′)) ≡ treesIn b)
+round-trip = trip.round-trip
+
+-- 10. What was read, and is accepted by the writer, can be written and read again to the same trees. [B-69]
+pub read-again : (feed : List ℕ) (b : Lent) (out : List ℕ) →
+    let t = toldOf (readInto feed b) (left feed b) in
+    writeAnswer t (length out) .answer ≡ done → (b′ : Lent) → Enough t b′ →
+    let again = toldBytes (writeAnswer t (length out)) (writeOut t out) in
+    (readInto again b′ .answer ≡ done) × (treesIn (toldOf (readInto again b′) (left again b′)) ≡ treesIn t)
+read-again = trip.read-write-read
+
+-- 11. Components that are written alike are equal, in whichever tables they stand: the written form is a key by which twins are found across any
+-- number of feeds. [B-69, B-71]
+pub written-is-key : (b b′ : Lent) (room room′ : ℕ) → writeAnswer b room .answer ≡ done → writeAnswer b′ room′ .answer ≡ done
+    → (row row′ : ℕ) → row < length (componentsIn (b .components)) → row′ < length (componentsIn (b′ .components))
+    → written (treeIn b levels row) ≡ written (treeIn b′ levels row′) → treeIn b levels row ≡ treeIn b′ levels row′
+written-is-key = trip.written-key
+
+-- 12. The twin test answers 1 exactly where the table rule is met, both rows are there, and their trees are equal. [B-14, B-36, B-71]
+pub twins-are-equal : (b : Lent) (one other : ℕ) → (twinsAnswer b one other ≡ compared done 0 1) ↔ (Asked b one other × (treeIn b levels one ≡ treeIn b levels other))
+twins-are-equal = twins-exactly
+
+-- 13. So twins is an equivalence on the rows of one table. [B-71]
+pub twins-are-alike : (b : Lent) → ((row : ℕ) → brokenIn b ≡ Nothing → row < length (componentsIn (b .components)) → Twins b row row)
+    × ((one other : ℕ) → Twins b one other → Twins b other one)
+    × ((one other third : ℕ) → Twins b one other → Twins b other third → Twins b one third)
+twins-are-alike b = (twin-itself b, twin-turned b, twin-joined b)
+
+-- 14. The starred examples. [B-79]
+pub examples : allHold starred ≡ true
+examples = all-starred
+
+-- ---- Demand 3: room
+
+-- 15. More room changes no answer of a reading other than 2 and 10: the same numbers, the same bytes and rows. [B-74]
+pub more-room : (feed : List ℕ) (b b′ : Lent) → Roomier b b′ → (readInto feed b .answer ≡ noTextRoom → ⊥) → (readInto feed b .answer ≡ noRoom → ⊥)
+    → (readInto feed b′ ≡ readInto feed b) × SameLeft (readInto feed b) b (left feed b) b′ (left feed b′)
+more-room = same-reading
+
+-- 16. 2 and 10 are told exactly where there is too little. [B-75]
+pub too-little : (feed : List ℕ) (b : Lent) → ((readInto feed b .answer ≡ noTextRoom) ↔ ((length feed ≤ longest) × (length (b .text) < length (unfolded feed))))
+    × ((readInto feed b .answer ≡ noRoom) ↔ ((length (unfolded feed) ≤ length (b .text)) × ((s : State) × Readable feed s × Exceeds (countsOf s) (roomIn b))))
+too-little feed b = (two-exactly feed (length (b .text)) (roomIn b), ten-exactly feed (length (b .text)) (roomIn b))
+
+-- 17. What they name is enough. [B-76]
+pub counts-are-enough : (feed : List ℕ) (b : Lent) → Suffices feed b
+counts-are-enough = refusals-suffice
+
+-- 18. The same of the writer, of both folds and of quoting: more room changes nothing but 13, which is told exactly where there is too little, with
+-- the length that is enough; a refusal leaves the buffer as it was. [B-39, B-74 to B-76]
+pub output-room : ((b : Lent) → RoomDecides (FitTables b) (writtenIn b) (writeAnswer b))
+    × ((fold : List ℕ → List ℕ) (line : List ℕ) → RoomDecides (lineAnswer line .answer ≡ done) (fold line) (foldAnswer fold line))
+    × ((value : List ℕ) → RoomDecides (length value ≤ longest) (quoted value) (quoteAnswer value))
+output-room = (write-room, λ fold line. fold-room line fold, quote-room)

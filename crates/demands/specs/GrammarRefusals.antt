@@ -1,0 +1,56 @@
+-- A text that is no calendar: the first line that cannot stand where it does, or the end, and what it is refused for (document 01, "What each number
+-- returns and leaves", numbers 3 to 9).
+-- Assumes nothing.
+use Prim.Native.Nat.{ℕ, suc, _≤_, _<_}
+use mathlib.Core.Path.{_≡_}
+use mathlib.Core.List.{List, [], _∷_, _++_}
+use lib.ListN.{length}
+use Rattle.octets.specs.Bytes.{keyByte}
+use Rattle.lines.specs.Split.{Placed}
+use Rattle.tables.specs.declared.PropertyRow.{PropertyRow}
+use Rattle.tables.specs.declared.ParameterRow.{ParameterRow}
+use Rattle.demands.specs.Returning.{All}
+use Rattle.demands.specs.LineGrammar.{Some, begin, end, Marked, Opens, PropertyLine}
+use Rattle.demands.specs.Grammar.{line, Lines, noRow, Rows, noRows, opened, withComponent, Body}
+
+-- Lines that begin a body and may leave components open: lines of the body itself, and then the opening line of a component and lines that begin the body
+-- of that one. Behind them so many components are open, the innermost with this name.
+pub data Begun : ℕ → ℕ → List ℕ → Rows → List Placed → ℕ → List ℕ → Rows → Type 0 where
+  in-this : {depth owner : ℕ} {name : List ℕ} {ls : List Placed} {r r′ : Rows} → Body depth owner r ls r′ → Begun depth owner name r ls depth name r′
+  in-another : (at : ℕ) {depth owner depth′ : ℕ} {name other opening name′ : List ℕ} {ls inner : List Placed} {r r′ r″ : Rows}
+      → Body depth owner r ls r′ → depth < 64 → Opens other opening
+      → Begun (suc depth) (length (r′ .components)) other (withComponent r′ (opened owner (suc depth) at other)) inner depth′ name′ r″
+      → Begun depth owner name r (ls ++ line at opening ∷ inner) depth′ name′ r″
+
+-- a line that is not empty and begins with neither `BEGIN:` nor `END:` in any case
+pub record Other (content : List ℕ) : Type 0 where
+  pub some : 0 < length content
+  pub no-begin : (rest : List ℕ) → Marked begin rest content → ⊥
+  pub no-end : (rest : List ℕ) → Marked end rest content → ⊥
+
+-- the number that a line is refused with where so many components are open, the innermost with this name
+pub data Refuses (depth : ℕ) (name content : List ℕ) : ℕ → Type 0 where
+  -- "after BEGIN: nothing, or a byte that is no key byte"
+  bad-begin : {rest : List ℕ} → Marked begin rest content → (Some keyByte rest → ⊥) → Refuses depth name content 3
+  -- "a sound BEGIN would be at depth 65"
+  too-deep : {rest : List ℕ} → Opens rest content → 64 ≤ depth → Refuses depth name content 4
+  -- "nothing open, or the rest differs from the open name"
+  none-open : {rest : List ℕ} → Marked end rest content → depth ≡ 0 → Refuses depth name content 5
+  other-name : {rest : List ℕ} → Marked end rest content → (rest ≡ name → ⊥) → Refuses depth name content 5
+  -- "any other line with nothing open"
+  outside : Other content → depth ≡ 0 → Refuses depth name content 6
+  -- "the property rule fails"
+  bad-line : Other content → 0 < depth
+      → ((start owner number : ℕ) (p : PropertyRow) (qs : List ParameterRow) → PropertyLine start owner number content p qs → ⊥)
+      → Refuses depth name content 7
+
+-- the number that a text is refused with, and the place: the start of the line, or the text's length
+pub data Broken (text : List ℕ) : ℕ → ℕ → Type 0 where
+  at-line : {number at depth : ℕ} {name content : List ℕ} {before : List Placed} {r : Rows} (behind : List Placed)
+      → Lines 0 text (before ++ line at content ∷ behind) → Begun 0 noRow [] noRows before depth name r → Refuses depth name content number
+      → Broken text number at
+  -- "end of text with a component open"
+  unclosed : {depth : ℕ} {name : List ℕ} {ls : List Placed} {r : Rows} → Lines 0 text ls → Begun 0 noRow [] noRows ls depth name r → 0 < depth
+      → Broken text 8 (length text)
+  -- "no line but empty ones"
+  no-component : {ls : List Placed} → Lines 0 text ls → All (λ (l : Placed). l .content ≡ []) ls → Broken text 9 (length text)
