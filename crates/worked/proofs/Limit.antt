@@ -1,0 +1,59 @@
+-- Answer 1: what is over 1,048,576 bytes is refused before all else but a broken or unwritable row, and changes nothing. No such input can stand in a table,
+-- so these are laws over all of them. One byte less is read by the law `within`, and run by the programs of `limits` and `writer_trial`. Assumes nothing.
+use Prim.Native.Nat.{ℕ, _≤_, _<_}
+use mathlib.Core.Path.{_≡_}
+use mathlib.Core.List.{List, [], _∷_}
+use lib.ListN.{length}
+use borrow.Author.Tests.{le-leb, lt-leb}
+use Rattle.unfolding.specs.Unfold.{unfolded}
+use Rattle.tables.specs.Lent.{Lent, brokenIn}
+use Rattle.tables.specs.declared.Found.the-variants.{Nothing}
+use Rattle.reading.specs.Answers.{readText, readingOf, textAfter}
+use Rattle.reading.specs.Lent.{roomIn, readInto, left}
+use Rattle.folding.specs.Answers.{foldAnswer, foldOut}
+use Rattle.quoting.specs.Answers.{quoteAnswer, quoteOut}
+use Rattle.writable.specs.WritingRule.{judgedIn}
+use Rattle.writable.specs.declared.Judged.{Judged}
+use Rattle.writing.specs.Answers.{writtenIn, writeAnswer, writeOut}
+use Rattle.worked.specs.Cases.{readingNumbers, outputNumbers}
+
+-- a reading: "over the byte limit"; "0; rest 0"; "Refusals 1 and 2 change nothing lent."
+module _ (feed : List ℕ) (b : Lent) where
+  pub too-long : 1048576 < length feed → readingNumbers (readInto feed b) ≡ 1 ∷ 0 ∷ 0 ∷ 0 ∷ 0 ∷ 0 ∷ []
+  unfolding readingOf
+  too-long over = rw (lt-leb (length feed) 1048576 over)
+
+  pub too-long-leaves : 1048576 < length feed → left feed b ≡ b
+  unfolding readingOf textAfter
+  too-long-leaves over = rw (lt-leb (length feed) 1048576 over)
+
+  -- at the limit the feed is read: "1,048,576 bytes are read, one more refused"
+  pub within : length feed ≤ 1048576 → length (unfolded feed) ≤ length (b .text) → readInto feed b ≡ readText (unfolded feed) (roomIn b)
+  unfolding readingOf
+  within feed-fits text-fits = rw (le-leb (length feed) 1048576 feed-fits, le-leb (length (unfolded feed)) (length (b .text)) text-fits)
+
+-- either fold: "Order in a fold: 1, 11, 12, 13"
+module _ (fold : List ℕ → List ℕ) (line old : List ℕ) (over : 1048576 < length line) where
+  pub line-too-long : outputNumbers (foldAnswer fold line (length old)) ≡ 1 ∷ 0 ∷ 0 ∷ []
+  line-too-long = rw (lt-leb (length line) 1048576 over)
+
+  pub line-too-long-leaves : foldOut fold line old ≡ old
+  line-too-long-leaves = rw (lt-leb (length line) 1048576 over)
+
+-- quoting: "in quoting, of any bytes: 1, 13"
+module _ (value old : List ℕ) (over : 1048576 < length value) where
+  pub value-too-long : outputNumbers (quoteAnswer value (length old)) ≡ 1 ∷ 0 ∷ 0 ∷ []
+  value-too-long = rw (lt-leb (length value) 1048576 over)
+
+  pub value-too-long-leaves : quoteOut value old ≡ old
+  value-too-long-leaves = rw (lt-leb (length value) 1048576 over)
+
+-- the writer: behind 14, 15 and 12, and before 13: "then 1, 13"
+module _ (b : Lent) (old : List ℕ) (sound : brokenIn b ≡ Nothing) (writable : judgedIn b ≡ Judged.Writable) (over : 1048576 < length (writtenIn b)) where
+  pub output-too-long : outputNumbers (writeAnswer b (length old)) ≡ 1 ∷ 0 ∷ 0 ∷ []
+  unfolding writeAnswer
+  output-too-long = rw (sound, writable, lt-leb (length (writtenIn b)) 1048576 over)
+
+  pub output-too-long-leaves : writeOut b old ≡ old
+  unfolding writeAnswer
+  output-too-long-leaves = rw (sound, writable, lt-leb (length (writtenIn b)) 1048576 over)

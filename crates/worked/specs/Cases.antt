@@ -1,0 +1,163 @@
+-- What a worked case can say, when it holds, and which cases of a table do not. The cases themselves are in the other files: small inputs with what
+-- document 01 says of them, written by hand, so that a reader can hold each against document 01 alone.
+-- Assumes nothing.
+use Prim.Native.Nat.{ℕ, zero, suc, _+_, _*_}
+use Prim.Native.Char.{code}
+use Prim.Native.String as strings
+use mathlib.Core.Bool.{Bool, _&&_}
+use mathlib.Core.List.{List, [], _∷_, _++_}
+use lib.ListN.{length, replicate}
+use lib.Dec.{eqb}
+use Rattle.octets.specs.Choice.{pick}
+use Rattle.octets.specs.Laid.{laid}
+use Rattle.octets.specs.Words.{sameBytes}
+use Rattle.octets.specs.Views.{viewed}
+use Rattle.octets.specs.Keys.{keyOf}
+use Rattle.octets.specs.declared.Key.{Key}
+use Rattle.octets.specs.declared.Key.the-variants.{Reserved, Run}
+use Rattle.octets.specs.declared.Output.{Output}
+use Rattle.unfolding.specs.Unfold.{unfolded}
+use Rattle.parameters.specs.Parameter.{frontOf}
+use Rattle.parameters.specs.declared.Value.{Value}
+use Rattle.parameters.specs.declared.Value.the-variants.{Absent, Present}
+use Rattle.parameters.specs.declared.Front.{Front}
+use Rattle.parameters.specs.declared.Front.the-variants.{NoParameter, Found}
+use Rattle.tables.specs.Lent.{Lent, lent}
+use Rattle.reading.specs.Lent.{readInto, left}
+use Rattle.reading.specs.declared.Reading.{Reading}
+use Rattle.folding.specs.Answers.{foldAnswer, foldOut}
+use Rattle.folding.specs.Repository.{repository}
+use Rattle.folding.specs.Strict.{strict}
+use Rattle.quoting.specs.Answers.{quoteAnswer, quoteOut}
+use Rattle.writing.specs.Answers.{writeAnswer, writeOut}
+
+-- ---- inputs, and what stands in lent buffers before a call
+
+-- a text as bytes: the number of each character
+unfoldable pub bytes : strings.String → List ℕ
+bytes strings.[] = []
+bytes (strings._∷_ c cs) = code c ∷ bytes cs
+
+-- so many letters `a`
+abbrev pub letters : ℕ → List ℕ
+letters n = replicate n 97
+
+-- so many numbers from the first on
+unfoldable pub rising : ℕ → ℕ → List ℕ
+rising zero first = []
+rising (suc n) first = first ∷ rising n (first + 1)
+
+-- so many bytes, from b on up to 249 and again from 170 on
+unfoldable pub turning : ℕ → ℕ → List ℕ
+turning zero b = []
+turning (suc n) b = b ∷ turning n (pick (eqb b 249) 170 (b + 1))
+
+-- what stands in lent buffers before a call, so that what stays is seen: bytes 170, 171 and so on, words 900001, 910001 or 920001 and so on
+abbrev pub bytes₀ : ℕ → List ℕ
+bytes₀ n = turning n 170
+
+abbrev pub components₀ : ℕ → List ℕ
+components₀ n = rising n 900001
+
+abbrev pub properties₀ : ℕ → List ℕ
+properties₀ n = rising n 910001
+
+abbrev pub parameters₀ : ℕ → List ℕ
+parameters₀ n = rising n 920001
+
+-- a text of so many bytes, and three tables of so many words
+abbrev pub room : ℕ → ℕ → ℕ → ℕ → Lent
+room text components properties parameters = lent (bytes₀ text) (components₀ components) (properties₀ properties) (parameters₀ parameters)
+
+unfoldable pub repeated : ℕ → List ℕ → List ℕ
+repeated zero xs = []
+repeated (suc n) xs = xs ++ repeated n xs
+
+-- 64 lines `BEGIN:A` of 8 bytes each, and then this
+abbrev pub deep : List ℕ → List ℕ
+deep rest = repeated 64 (bytes "BEGIN:A\n") ++ rest
+
+-- the words of so many components, each in the one before; the first has this parent and this row, and the name of row i is the byte at step * i + offset
+unfoldable pub nested : ℕ → ℕ → ℕ → ℕ → ℕ → List ℕ
+nested step offset zero parent row = []
+nested step offset (suc n) parent row = parent ∷ (row + 1) ∷ (step * row + offset) ∷ 1 ∷ nested step offset n row (row + 1)
+
+-- ---- what a case can say
+
+pub data Claim : Type 0 where
+  -- a feed read into these buffers gives six numbers, and leaves the buffers so
+  reads : (feed : List ℕ) (before : Lent) (numbers : List ℕ) (after : Lent) → Claim
+  -- the repository's fold of a line into this buffer gives three numbers, and leaves the buffer so
+  folds : (line before numbers after : List ℕ) → Claim
+  -- so does the strict fold
+  foldsStrictly : (line before numbers after : List ℕ) → Claim
+  -- so does quoting
+  quotes : (value before numbers after : List ℕ) → Claim
+  -- so does the writer, on this text and these tables
+  writes : (tables : Lent) (before numbers after : List ℕ) → Claim
+  -- unfolding into this buffer counts so many bytes, and leaves the buffer so
+  unfolds : (feed before : List ℕ) (count : ℕ) (after : List ℕ) → Claim
+  -- the view of a text has these bytes
+  views : (text : List ℕ) (start len : ℕ) (part : List ℕ) → Claim
+  -- the key of a line has so many bytes; no number: it is refused
+  hasKey : (line numbers : List ℕ) → Claim
+  -- the parameter at the front has six numbers: key start and length, 1 if a value is present else 0, value start and length, bytes used; no number: there is none
+  hasParameter : (rest numbers : List ℕ) → Claim
+
+-- a refusal that leaves the three tables as they were
+abbrev pub refuses : List ℕ → Lent → List ℕ → List ℕ → Claim
+refuses feed before numbers text = reads feed before numbers (lent text (before .components) (before .properties) (before .parameters))
+
+pub record Case : Type 0 where
+  pub name : strings.String
+  pub says : Claim
+
+abbrev pub case : strings.String → Claim → Case
+case name says = record { name = name; says = says }
+
+-- ---- when it holds
+
+-- "answer, place, text length, then counts of components, properties, parameters"
+abbrev pub readingNumbers : Reading → List ℕ
+readingNumbers r = r .answer ∷ r .place ∷ r .length ∷ r .components ∷ r .properties ∷ r .parameters ∷ []
+
+-- "answer, place and the output length"
+abbrev pub outputNumbers : Output → List ℕ
+outputNumbers o = o .answer ∷ o .place ∷ o .length ∷ []
+
+abbrev pub keyNumbers : Key → List ℕ
+keyNumbers Reserved = []
+keyNumbers (Run n) = n ∷ []
+
+abbrev pub valueNumbers : Value → List ℕ → List ℕ
+valueNumbers Absent rest = 0 ∷ 0 ∷ 0 ∷ rest
+valueNumbers (Present s) rest = 1 ∷ s .start ∷ s .len ∷ rest
+
+abbrev pub frontNumbers : Front → List ℕ
+frontNumbers NoParameter = []
+frontNumbers (Found p) = p .key .start ∷ p .key .len ∷ valueNumbers (p .value) (p .used ∷ [])
+
+abbrev pub sameLent : Lent → Lent → Bool
+sameLent a b =
+    sameBytes (a .text) (b .text)
+    && (sameBytes (a .components) (b .components) && (sameBytes (a .properties) (b .properties) && sameBytes (a .parameters) (b .parameters)))
+
+-- the numbers of an output, and the buffer
+abbrev pub comesOut : Output → List ℕ → List ℕ → List ℕ → Bool
+comesOut o out numbers after = sameBytes (outputNumbers o) numbers && sameBytes out after
+
+unfoldable pub holds : Claim → Bool
+holds (reads feed before numbers after) = sameBytes (readingNumbers (readInto feed before)) numbers && sameLent (left feed before) after
+holds (folds line before numbers after) = comesOut (foldAnswer repository line (length before)) (foldOut repository line before) numbers after
+holds (foldsStrictly line before numbers after) = comesOut (foldAnswer strict line (length before)) (foldOut strict line before) numbers after
+holds (quotes value before numbers after) = comesOut (quoteAnswer value (length before)) (quoteOut value before) numbers after
+holds (writes tables before numbers after) = comesOut (writeAnswer tables (length before)) (writeOut tables before) numbers after
+holds (unfolds feed before count after) = eqb (length (unfolded feed)) count && sameBytes (laid (unfolded feed) before) after
+holds (views text start len part) = sameBytes (viewed text start len) part
+holds (hasKey line numbers) = sameBytes (keyNumbers (keyOf line)) numbers
+holds (hasParameter rest numbers) = sameBytes (frontNumbers (frontOf rest)) numbers
+
+-- the names of the cases that do not hold
+unfoldable pub wrong : List Case → List strings.String
+wrong [] = []
+wrong (c ∷ cs) = pick (holds (c .says)) (wrong cs) (c .name ∷ wrong cs)

@@ -1,0 +1,9 @@
+pub mod Cases
+pub mod Reading
+pub mod ReadingRoom
+pub mod ReadingRefused
+pub mod Folding
+pub mod Quoting
+pub mod Writing
+pub mod WritingRefused
+pub mod Parts
