@@ -1,25 +1,22 @@
 // The public calls for C and Rust. A slice is two words there, where it starts and how long it is; the numbers of an answer go into a lent array.
 ghost use mathlib.Core.Path.{_≡_};
 ghost use lib.ListN.{length};
-ghost use Rattle.unfolding.specs.Parts.{Unfolding};
 ghost use Rattle.tables.specs.Lent.{lent};
+ghost use Rattle.reading.specs.Answers.{textAfter};
 ghost use Rattle.reading.specs.Lent.{readInto, left};
 ghost use Rattle.folding.specs.Strict.{strict};
 ghost use Rattle.folding.specs.Repository.{repository};
 ghost use Rattle.folding.specs.Answers.{foldAnswer, foldOut};
 ghost use Rattle.quoting.specs.Answers.{quoteAnswer, quoteOut};
 ghost use Rattle.writing.specs.Answers.{writeAnswer, writeOut};
-ghost use Rattle.exports.specs.Numbers.{readingNumbers, outputNumbers};
+ghost use Rattle.twins.specs.Answers.{twinsAnswer};
+ghost use Rattle.neighbours.specs.Counts.{neighboursAnswer};
+ghost use Rattle.exports.specs.Numbers.{readingNumbers, outputNumbers, twinNumbers, neighbourNumbers};
+ghost use Rattle.exports.specs.Unfolding.{unfoldAnswer};
+use neighbours::Neighbours;
 use octets::Output;
 use reading::Reading;
-
-// Unfolds as much as the text takes, and returns the whole length.
-#[no_mangle]
-pub extern "C" fn hawniretem_unfold(feed: &[u8], text: &mut [u8]) -> usize
-    ensures { λ r. ⌜ Unfolding (now (feed .entry)) (now (text .entry)) (now (text .exit)) r ⌝ }
-{
-    unfolding::unfold_into(feed, text)
-}
+use twins::Compared;
 
 // Puts the six numbers of a reading into the lent array.
 fn tell_reading(r: Reading, numbers: &mut [usize; 6])
@@ -61,6 +58,42 @@ fn tell(output: Output, numbers: &mut [usize; 3])
     ensures { λ _. ⌜ now (numbers .exit) ≡ outputNumbers output ⌝ }
 {
     *numbers = [output.answer as usize, output.place, output.length];
+}
+
+// Unfolds a feed into a text that takes all of it; a refusal changes nothing.
+fn unfold_whole(feed: &[u8], text: &mut [u8]) -> Output
+    ensures { λ r. ⌜ r ≡ unfoldAnswer (now (feed .entry)) (length (now (text .entry))) ⌝ }
+    ensures { λ _. ⌜ now (text .exit) ≡ textAfter (now (feed .entry)) (now (text .entry)) ⌝ }
+{
+    if octets::LONGEST < feed.len() {
+        return Output {
+            answer: octets::TOO_LONG,
+            place: 0,
+            length: 0,
+        };
+    }
+    let length = reading::unfold_where_it_fits(feed, text);
+    if text.len() < length {
+        return Output {
+            answer: octets::NO_TEXT_ROOM,
+            place: 0,
+            length,
+        };
+    }
+    Output {
+        answer: octets::DONE,
+        place: 0,
+        length,
+    }
+}
+
+// Unfolds a feed.
+#[no_mangle]
+pub extern "C" fn hawniretem_unfold(feed: &[u8], text: &mut [u8], numbers: &mut [usize; 3])
+    ensures { λ _. ⌜ now (numbers .exit) ≡ outputNumbers (unfoldAnswer (now (feed .entry)) (length (now (text .entry)))) ⌝ }
+    ensures { λ _. ⌜ now (text .exit) ≡ textAfter (now (feed .entry)) (now (text .entry)) ⌝ }
+{
+    tell(unfold_whole(feed, text), numbers)
 }
 
 // Folds a line as the repository does.
@@ -107,6 +140,59 @@ pub extern "C" fn hawniretem_write(
 {
     tell(
         writing::write_components(text, components, properties, parameters, out),
+        numbers,
+    )
+}
+
+// Puts the answer, the place and 1 for twins into the lent array.
+fn tell_twins(told: Compared, numbers: &mut [usize; 3])
+    ensures { λ _. ⌜ now (numbers .exit) ≡ twinNumbers told ⌝ }
+{
+    *numbers = [told.answer as usize, told.place, told.twins as usize];
+}
+
+// Whether two component rows are twins.
+#[no_mangle]
+pub extern "C" fn hawniretem_twins(
+    text: &[u8],
+    components: &[u32],
+    properties: &[u32],
+    parameters: &[u32],
+    first: usize,
+    second: usize,
+    numbers: &mut [usize; 3],
+)
+    ensures { λ _. ⌜ now (numbers .exit)
+        ≡ twinNumbers (twinsAnswer (lent (now (text .entry)) (now (components .entry)) (now (properties .entry)) (now (parameters .entry))) first second) ⌝ }
+{
+    tell_twins(
+        twins::compare_twins(text, components, properties, parameters, first, second),
+        numbers,
+    )
+}
+
+// Puts the answer, the place and the count into the lent array.
+fn tell_neighbours(told: Neighbours, numbers: &mut [usize; 3])
+    ensures { λ _. ⌜ now (numbers .exit) ≡ neighbourNumbers told ⌝ }
+{
+    *numbers = [told.answer as usize, told.place, told.twins];
+}
+
+// How many children of a component are twins of the sibling directly before them.
+#[no_mangle]
+pub extern "C" fn hawniretem_neighbours(
+    text: &[u8],
+    components: &[u32],
+    properties: &[u32],
+    parameters: &[u32],
+    parent: usize,
+    numbers: &mut [usize; 3],
+)
+    ensures { λ _. ⌜ now (numbers .exit)
+        ≡ neighbourNumbers (neighboursAnswer (lent (now (text .entry)) (now (components .entry)) (now (properties .entry)) (now (parameters .entry))) parent) ⌝ }
+{
+    tell_neighbours(
+        neighbours::count_neighbours(text, components, properties, parameters, parent),
         numbers,
     )
 }

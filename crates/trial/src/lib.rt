@@ -1,6 +1,7 @@
 // What the programs that run examples share: saying what came out, and making feeds of a size.
 use libc::STDOUT_FILENO;
 use reading::Reading;
+use tables::ComponentRow;
 
 pub fn say(words: &[u8]) {
     io::write_all(STDOUT_FILENO, words);
@@ -24,7 +25,7 @@ pub fn say_reading(r: Reading) {
 }
 
 // Lays the words so many times, and counts the bytes.
-fn repeat(words: &[u8], times: usize, out: &mut [u8], at: usize) -> usize {
+pub fn repeat(words: &[u8], times: usize, out: &mut [u8], at: usize) -> usize {
     let mut to = at;
     let mut left = times;
     while left > 0 {
@@ -38,6 +39,23 @@ fn repeat(words: &[u8], times: usize, out: &mut [u8], at: usize) -> usize {
 fn nest(depth: usize, out: &mut [u8]) -> usize {
     let inner = repeat(b"BEGIN:A\n", depth, out, 0);
     repeat(b"END:A\n", depth, out, inner)
+}
+
+// Lays the rows of so many components inside each other.
+pub fn nest_rows(depth: u32, table: &mut [u32]) {
+    let mut parent = tables::NO_PARENT;
+    let mut row: u32 = 0;
+    while row < depth {
+        let c = ComponentRow {
+            parent,
+            depth: row + 1,
+            name_start: 0,
+            name_len: 1,
+        };
+        tables::put_component(table, row as usize, c);
+        parent = row;
+        row += 1;
+    }
 }
 
 // Reads so many components inside each other, into rows for one more than is read.

@@ -1,6 +1,5 @@
 // Runs the writer on tables made by hand: what it writes, what it refuses and at which row, and that a refusal leaves its buffer alone.
 use octets::Output;
-use tables::ComponentRow;
 use trial::say;
 use trial::say_number;
 
@@ -259,27 +258,10 @@ fn room() {
     write_sound(b"no buffer:", &mut none);
 }
 
-// So many components inside each other.
-fn nest(depth: u32, table: &mut [u32]) {
-    let mut parent = NONE;
-    let mut row: u32 = 0;
-    while row < depth {
-        let c = ComponentRow {
-            parent,
-            depth: row + 1,
-            name_start: 0,
-            name_len: 1,
-        };
-        tables::put_component(table, row as usize, c);
-        parent = row;
-        row += 1;
-    }
-}
-
 fn write_nested(label: &[u8], depth: u32) {
     let mut out = [BEFORE; 1100];
     let mut components = [0u32; 260];
-    nest(depth, &mut components);
+    trial::nest_rows(depth, &mut components);
     let none = [0u32; 0];
     let words = octets::least(depth as usize * tables::COMPONENT_WORDS, 260);
     let o = writing::write_components(b"A", &components[0..words], &none, &none, &mut out);

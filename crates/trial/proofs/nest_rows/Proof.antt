@@ -1,10 +1,10 @@
--- `writer_trial::nest` is safe and ends: the measure is the rows that are left, and the table keeps its length. Assumes nothing.
+-- `trial::nest_rows` is safe and ends: the measure is the rows that are left, and the table keeps its length. Assumes nothing.
 use borrow.Author.Needs.{needs}
 use Prim.Native.Nat.{_-_}
 use mathlib.Core.Path.{_≡_}
 use lib.ListN.{length}
-use Rattle.writer_trial.proofs.nest.Statement.{statement}
-use Rattle.writer_trial.proofs.nest.Tie as tie
+use Rattle.trial.proofs.nest_rows.Statement.{statement}
+use Rattle.trial.proofs.nest_rows.Tie as tie
 
 abbrev Inv-loop : tie.InvT-loop
 Inv-loop depth table₀ parent₀ row₀ table parent row = length table ≡ length table₀
@@ -39,8 +39,8 @@ same-length c = search needs
 returns : tie.Need-returns Inv-loop μ-loop
 returns c = search needs
 
-pub nest-spec : {M : Type 1} → statement M
-nest-spec =
+pub nest-rows-spec : {M : Type 1} → statement M
+nest-rows-spec =
     tie.close
     (tie.spec
     Inv-loop
