@@ -53,6 +53,7 @@ pub fn feed(kind: &str, bytes: usize) -> String {
         "nested" => nested(bytes),
         "one-line" => one_line(bytes),
         "hostile" => hostile(bytes),
+        "doubled" => doubled(bytes),
         _ => panic!("no feed is called {kind}"),
     }
 }
@@ -61,6 +62,18 @@ pub fn feed(kind: &str, bytes: usize) -> String {
 fn calendar(end: &str, bytes: usize) -> String {
     let mut dice = Dice(0x9E37_79B9_7F4A_7C15);
     wrapped("VCALENDAR", bytes, end, |n| event(&mut dice, n, end))
+}
+
+/// The same, each event twice.
+fn doubled(bytes: usize) -> String {
+    let mut dice = Dice(0x9E37_79B9_7F4A_7C15);
+    let mut once = String::new();
+    wrapped("VCALENDAR", bytes, "\r\n", |n| {
+        if n % 2 == 0 {
+            once = event(&mut dice, n, "\r\n");
+        }
+        once.clone()
+    })
 }
 
 fn event(dice: &mut Dice, n: usize, end: &str) -> String {

@@ -1,7 +1,7 @@
 //! The proved functions, as the archive exports them: a slice is two words, where it starts and how long it is.
 
 unsafe extern "C" {
-    fn hawniretem_unfold(feed: *const u8, feed_len: usize, text: *mut u8, text_len: usize) -> usize;
+    fn hawniretem_unfold(feed: *const u8, feed_len: usize, text: *mut u8, text_len: usize, numbers: *mut [usize; 3]);
     fn hawniretem_read(
         feed: *const u8,
         feed_len: usize,
@@ -30,6 +30,18 @@ unsafe extern "C" {
         out_len: usize,
         numbers: *mut [usize; 3],
     );
+    fn hawniretem_neighbours(
+        text: *const u8,
+        text_len: usize,
+        components: *const u32,
+        components_len: usize,
+        properties: *const u32,
+        properties_len: usize,
+        parameters: *const u32,
+        parameters_len: usize,
+        parent: usize,
+        numbers: *mut [usize; 3],
+    );
 }
 
 /// What a caller lends: nothing else is written.
@@ -55,8 +67,10 @@ impl Lent {
     }
 }
 
-pub fn unfold(feed: &[u8], text: &mut [u8]) -> usize {
-    unsafe { hawniretem_unfold(feed.as_ptr(), feed.len(), text.as_mut_ptr(), text.len()) }
+pub fn unfold(feed: &[u8], text: &mut [u8]) -> [usize; 3] {
+    let mut numbers = [0; 3];
+    unsafe { hawniretem_unfold(feed.as_ptr(), feed.len(), text.as_mut_ptr(), text.len(), &mut numbers) }
+    numbers
 }
 
 pub fn read(feed: &[u8], lent: &mut Lent) -> [usize; 6] {
@@ -108,6 +122,27 @@ pub fn write(told: [usize; 6], lent: &mut Lent) -> [usize; 3] {
             6 * told[5],
             out.as_mut_ptr(),
             out.len(),
+            &mut numbers,
+        )
+    }
+    numbers
+}
+
+/// How many children of the first component are twins of the one before them, in what a reading told of.
+pub fn neighbours(told: [usize; 6], lent: &Lent) -> [usize; 3] {
+    let Lent { text, components: c, properties: p, parameters: q, .. } = lent;
+    let mut numbers = [0; 3];
+    unsafe {
+        hawniretem_neighbours(
+            text.as_ptr(),
+            told[2],
+            c.as_ptr(),
+            4 * told[3],
+            p.as_ptr(),
+            5 * told[4],
+            q.as_ptr(),
+            6 * told[5],
+            0,
             &mut numbers,
         )
     }

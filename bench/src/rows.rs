@@ -37,6 +37,7 @@ pub const ROWS: &[Row] = &[
     FOLD,
     QUOTE,
     WRITE,
+    TWINS,
     #[cfg(libical)]
     LIBICAL,
 ];
@@ -59,8 +60,8 @@ const UNFOLD: Row = Row {
         drop(text);
     },
     same: |parts, lent| {
-        let length = ours::unfold(parts[0].as_bytes(), &mut lent.text);
-        lent.text[..length] == *unfold(&parts[0]).as_bytes()
+        let [answer, _, length] = ours::unfold(parts[0].as_bytes(), &mut lent.text);
+        answer == 0 && lent.text[..length] == *unfold(&parts[0]).as_bytes()
     },
 };
 
@@ -131,6 +132,36 @@ const WRITE: Row = Row {
         answer == 0 && unquoted(&feed) == unquoted(&written(&read_component(&unfold(&parts[0])).unwrap()))
     },
 };
+
+/// Each component below the first compared with the one before it, and the Rust's `==` on its own trees; neither reading is timed. In `doubled`
+/// every other pair is equal. Ours checks the tables first, once.
+const TWINS: Row = Row {
+    name: "twins",
+    feeds: &[("calendar", 1 << 20), ("calendar", 1 << 19), ("nested", 1 << 20), ("doubled", 1 << 20)],
+    parts: |feed| vec![feed],
+    ours: |parts, lent, clock| {
+        let told = ours::read(parts[0].as_bytes(), lent);
+        clock.start();
+        black_box(ours::neighbours(black_box(told), lent));
+        clock.stop();
+    },
+    theirs: |parts, clock| {
+        let text = unfold(&parts[0]);
+        let tree = read_component(&text).unwrap();
+        clock.start();
+        black_box(like_before(black_box(&tree)));
+        clock.stop();
+    },
+    same: |parts, lent| {
+        let told = ours::read(parts[0].as_bytes(), lent);
+        ours::neighbours(told, lent) == [0, 0, like_before(&read_component(&unfold(&parts[0])).unwrap())]
+    },
+};
+
+/// How many components are equal to the one before them.
+fn like_before(tree: &Component) -> usize {
+    tree.components.windows(2).filter(|pair| pair[0] == pair[1]).count()
+}
 
 /// What both writers give alike: they fold elsewhere, and the Rust's raw writer sets no quotes.
 fn unquoted(feed: &str) -> String {
