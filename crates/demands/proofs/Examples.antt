@@ -6,11 +6,11 @@ use Rattle.octets.specs.Words.{sameBytes, startsWord}
 use Rattle.unfolding.specs.Unfold.{unfoldedAfter}
 use Rattle.parameters.specs.Values.{quotedLen, furtherAfter, formOf}
 use Rattle.parameters.specs.Parameter.{paramOf, frontOf}
-use Rattle.folding.specs.Pieces.{broken}
+use Rattle.folding.specs.Pieces.{behindBreaks}
 use Rattle.folding.specs.Strict.{units, foldedUnits, packed}
 use Rattle.folding.specs.Repository.{cuts}
 use Rattle.demands.specs.Examples.{holds, allHold, starred}
 
 pub all-starred : allHold starred ≡ true
-unfolding holds allHold run sameBytes startsWord unfoldedAfter quotedLen furtherAfter formOf paramOf frontOf broken units foldedUnits packed cuts
+unfolding holds allHold run sameBytes startsWord unfoldedAfter quotedLen furtherAfter formOf paramOf frontOf behindBreaks units foldedUnits packed cuts
 all-starred = refl

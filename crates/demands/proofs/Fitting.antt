@@ -24,11 +24,11 @@ use Rattle.tables.specs.declared.PropertyRow.{PropertyRow}
 use Rattle.tables.specs.declared.ParameterRow.{ParameterRow}
 use Rattle.tables.specs.declared.Found.{Found}
 use Rattle.tables.specs.declared.Found.the-variants.{Nothing, At}
-use Rattle.writable.specs.WritingRule.{nameFits, keyFits, noBreak, valueAscii, verdict, componentVerdict, propertyVerdict, parameterVerdict, told, judgedFrom, judgedIn}
+use Rattle.writable.specs.WritingRule.{nameFits, keyFits, noBreak, valueAscii, verdict, componentVerdict, propertyVerdict, parameterVerdict, judgedBy, judgedFrom, judgedIn}
 use Rattle.writable.specs.declared.Verdict.{Verdict}
 use Rattle.writable.specs.declared.Judged.{Judged}
 use Rattle.writing.specs.Answers.{writtenIn, byTableRule, byWritingRule, byLength, writeAnswer}
-use Rattle.demands.specs.Returning.{All, parameterFits, FitProperty, Fit, Shallow}
+use Rattle.demands.specs.Returning.{All, fitParameter, FitProperty, Fit, Shallow}
 
 -- ---- rows that are all so, and what is gathered of them
 
@@ -63,10 +63,10 @@ fine-fits : (fits plain : Bool) → verdict fits plain ≡ Verdict.Fine → fits
 fine-fits true plain e = refl
 fine-fits false plain e = cc
 
-told-writable : (v : Verdict) (row : ℕ) (rest : Judged) → told v row rest ≡ Judged.Writable → (v ≡ Verdict.Fine) × (rest ≡ Judged.Writable)
-told-writable Verdict.Fine row rest e = (refl, e)
-told-writable Verdict.Unwritable row rest e = (cc, cc)
-told-writable Verdict.NotAscii row rest e = (cc, cc)
+judged-writable : (v : Verdict) (row : ℕ) (rest : Judged) → judgedBy v row rest ≡ Judged.Writable → (v ≡ Verdict.Fine) × (rest ≡ Judged.Writable)
+judged-writable Verdict.Fine row rest e = (refl, e)
+judged-writable Verdict.Unwritable row rest e = (cc, cc)
+judged-writable Verdict.NotAscii row rest e = (cc, cc)
 
 -- so are the rows of one table, and those behind it
 all-fine : {A : Type 0} (verdictOf : A → Verdict) (row : ℕ) (xs : List A) (rest : Judged) → judgedFrom verdictOf row xs rest ≡ Judged.Writable
@@ -74,7 +74,7 @@ all-fine : {A : Type 0} (verdictOf : A → Verdict) (row : ℕ) (xs : List A) (r
 unfolding All judgedFrom
 all-fine verdictOf row [] rest e = (tt, e)
 all-fine verdictOf row (x ∷ xs) rest e =
-    let here = told-writable (verdictOf x) row (judgedFrom verdictOf (row + 1) xs rest) e in
+    let here = judged-writable (verdictOf x) row (judgedFrom verdictOf (row + 1) xs rest) e in
     let later = all-fine verdictOf (row + 1) xs rest (here .1) in
     ((here .0, later .0), later .1)
 
@@ -110,15 +110,15 @@ forestIn b = forest (b .text) (componentsIn (b .components)) (propertiesIn (b .p
 abbrev grownIn : Lent → ℕ → ℕ → ComponentRow → Trees → Trees
 grownIn b level = grown (b .text) (componentsIn (b .components)) (propertiesIn (b .properties)) (parametersIn (b .parameters)) (forestIn b level)
 
-fit-parameter : (text : List ℕ) (p : ParameterRow) → FineParameter text p → parameterFits (parameterOf text p) ≡ true
-fit-parameter text p e = fine-fits (parameterFits (parameterOf text p)) (valueAscii (valueOf text p)) e
+fit-parameter : (text : List ℕ) (p : ParameterRow) → FineParameter text p → fitParameter (parameterOf text p) ≡ true
+fit-parameter text p e = fine-fits (fitParameter (parameterOf text p)) (valueAscii (valueOf text p)) e
 
 module _ (b : Lent) (fine : Fine b) where
-  fit-parameters : (property : ℕ) → All (λ (q : Parameter). parameterFits q ≡ true) (parametersOf (b .text) (parametersIn (b .parameters)) property)
+  fit-parameters : (property : ℕ) → All (λ (q : Parameter). fitParameter q ≡ true) (parametersOf (b .text) (parametersIn (b .parameters)) property)
   unfolding All
   fit-parameters property =
       gathered (λ (p : ParameterRow). p .property) (λ row p rest. parameterOf (b .text) p ∷ rest)
-      (FineParameter (b .text)) (All (λ (q : Parameter). parameterFits q ≡ true))
+      (FineParameter (b .text)) (All (λ (q : Parameter). fitParameter q ≡ true))
       (λ row p rest e k. (fit-parameter (b .text) p e, k)) [] tt property 0 (parametersIn (b .parameters)) (fine .of-parameters)
 
   fit-property : (row : ℕ) (p : PropertyRow) → FineProperty (b .text) p → FitProperty (propertyOf (b .text) (parametersIn (b .parameters)) row p)

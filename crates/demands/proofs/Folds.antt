@@ -17,8 +17,8 @@ use Rattle.octets.specs.declared.Output.{Output}
 use Rattle.octets.proofs.Runs.{within, through, whole-take}
 use Rattle.unfolding.specs.Unfold.{unfolded, unfoldedAfter}
 use Rattle.unfolding.proofs.Laws.{Unbroken, unbroken, piece}
-use Rattle.folding.specs.Pieces.{broken, joined, physical, Within}
-use Rattle.folding.specs.Strict.{first, strict, strictPieces, Filled}
+use Rattle.folding.specs.Pieces.{behindBreaks, joined, physical, Within}
+use Rattle.folding.specs.Strict.{first, strict, strictPieces, Full}
 use Rattle.folding.specs.Repository.{repository, repositoryPieces}
 use Rattle.folding.specs.Answers.{ascii, lineAnswer, foldAnswer, foldOut}
 use Rattle.folding.proofs.Strict.{strict-joins, strict-keeps, strict-fills, strict-within, strict-short}
@@ -36,11 +36,11 @@ unbroken-right xs ys w = omega (arith, through (other lf) xs ys (unbroken-left x
 
 -- ---- pieces joined by breaks unfold to the pieces in turn
 
-from-piece : (p : List ℕ) (ps : List (List ℕ)) → Unbroken (p ++ flatten ps) → unfolded (p ++ broken ps) ≡ p ++ flatten ps
-unfolding broken flatten
+from-piece : (p : List ℕ) (ps : List (List ℕ)) → Unbroken (p ++ flatten ps) → unfolded (p ++ behindBreaks ps) ≡ p ++ flatten ps
+unfolding behindBreaks flatten
 from-piece p [] w = rw append-nil (unbroken p (unbroken-left p [] w))
 from-piece p (q ∷ qs) w =
-    piece p space (q ++ broken qs) (unbroken-left p (q ++ flatten qs) w) refl
+    piece p space (q ++ behindBreaks qs) (unbroken-left p (q ++ flatten qs) w) refl
     ∙ ap (λ (xs : List ℕ). p ++ xs) (from-piece q qs (unbroken-right p (q ++ flatten qs) w))
 
 pub pieces-unfold : (ps : List (List ℕ)) → Unbroken (flatten ps) → unfolded (joined ps) ≡ flatten ps
@@ -73,7 +73,7 @@ module _ (line : List ℕ) where
   strict-75 = strict-within line
 
   -- and every one but the last is full
-  pub strict-full : Filled first (strictPieces line)
+  pub strict-full : Full first (strictPieces line)
   strict-full = strict-fills line
 
   -- a line of at most 75 bytes is itself, and so is the empty one

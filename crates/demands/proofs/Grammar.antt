@@ -15,7 +15,7 @@ use Rattle.lines.specs.Split.{Placed, linesFrom}
 use Rattle.lines.specs.Rule.{lineOf}
 use Rattle.lines.proofs.Rule.{is-empty}
 use Rattle.tables.specs.declared.ComponentRow.{ComponentRow}
-use Rattle.nesting.specs.Steps.{State, nothing, checkOf, after, Run, finished, stopped, onward, run, runOf, countsOf, endedAt, judged, outcomeOf}
+use Rattle.nesting.specs.Steps.{State, nothing, checkOf, after, Run, finished, stopped, onward, readLines, runOf, countsOf, endedAt, judged, outcomeOf}
 use Rattle.nesting.specs.declared.Check.{Check}
 use Rattle.nesting.specs.declared.Entry.{Entry}
 use Rattle.nesting.specs.declared.Outcome.the-variants.{Read, Refused}
@@ -26,7 +26,7 @@ use Rattle.reading.specs.Lent.{roomIn, readInto}
 use Rattle.reading.specs.declared.Reading.{Reading}
 use Rattle.demands.specs.Readable.{Readable}
 use Rattle.demands.specs.Returning.{All}
-use Rattle.demands.specs.Grammar.{line, Lines, noRow, Rows, noRows, opened, withComponent, Body, no-line, empty-line, a-property, a-component, Calendar}
+use Rattle.demands.specs.Grammar.{line, Lines, noRow, Rows, noRows, openedRow, withComponent, Body, no-line, empty-line, a-property, a-component, Calendar}
 use Rattle.demands.specs.GrammarRefusals.{Begun, in-this, in-another, Broken, at-line, unclosed, no-component}
 use Rattle.demands.proofs.Cases.{Answered, cases, exactly}
 use Rattle.demands.proofs.Cases.Answered.{too-long, no-text-room, not-readable, no-room, all-read}
@@ -55,7 +55,7 @@ body-more no-line = omega arith
 body-more (empty-line b) = body-more b
 body-more (a-property h p b) = body-more b
 body-more (a-component at at′ {depth = depth} {owner = owner} {name = name} {r = r} d o b c later) =
-    omega (arith, body-more b, body-more later, one-more r (opened owner (suc depth) at name))
+    omega (arith, body-more b, body-more later, one-more r (openedRow owner (suc depth) at name))
 
 abbrev Blank : List Placed → Type 0
 Blank ls = All (λ (l : Placed). l .content ≡ []) ls
@@ -67,7 +67,7 @@ body-blank no-line z h = tt
 body-blank (empty-line b) z h = (refl, body-blank b z h)
 body-blank (a-property some p b) z h = absurd (omega arith)
 body-blank (a-component at at′ {depth = depth} {owner = owner} {name = name} {r = r} d o b c later) z h =
-    absurd (omega (arith, body-more b, body-more later, one-more r (opened owner (suc depth) at name)))
+    absurd (omega (arith, body-more b, body-more later, one-more r (openedRow owner (suc depth) at name)))
 
 -- ---- the lines of a text
 
@@ -85,11 +85,11 @@ module _ (text : List ℕ) where
   split-in : {ls : List Placed} → Lines 0 text ls → All (In text) ls
   split-in l = subst (All (In text)) (lines-are l) all-in
 
-  run-split : {ls : List Placed} → Lines 0 text ls → runOf text ≡ run text ls nothing
-  run-split l = ap (λ (ls : List Placed). run text ls nothing) (lines-are l)
+  run-split : {ls : List Placed} → Lines 0 text ls → runOf text ≡ readLines text ls nothing
+  run-split l = ap (λ (ls : List Placed). readLines text ls nothing) (lines-are l)
 
   -- lines that are read from the start on
-  begun-from : (ls : List Placed) → All (In text) ls → (s : State) → run text ls nothing ≡ finished s
+  begun-from : (ls : List Placed) → All (In text) ls → (s : State) → readLines text ls nothing ≡ finished s
       → Begun 0 noRow [] noRows ls (length (s .opens)) (innermost text (s .opens)) (rows s)
   begun-from ls i s e = begun-of text (left-of text ls i [] noRows s e)
 
@@ -97,7 +97,7 @@ module _ (text : List ℕ) where
 
   -- to the end with nothing open: a body outside of all components, with the same rows
   pub reads-body : (r : Rows) → (runOf text ≡ finished (state [] r)) ↔ Body 0 noRow noRows lines r
-  unfolding run
+  unfolding readLines
   reads-body r = (
     λ e. begun-body (begun-from lines all-in (state [] r) e) refl,
     λ b. rw append-nil at (body-reads text b [] refl refl all-in []),
@@ -118,12 +118,12 @@ module _ (text : List ℕ) where
     behind : List Placed
     last : State
     is : ls ≡ before ++ here ∷ behind
-    reads : run text before s ≡ finished last
+    reads : readLines text before s ≡ finished last
     refused : checkOf text (here .content) (lineOf (here .content)) (last .opens) ≡ Check.Bad x
     at : here .start ≡ place
 
-  stops : (ls : List Placed) (s : State) (x : Refusal) (place : ℕ) → run text ls s ≡ stopped x place → Stopped ls s x place
-  unfolding run
+  stops : (ls : List Placed) (s : State) (x : Refusal) (place : ℕ) → readLines text ls s ≡ stopped x place → Stopped ls s x place
+  unfolding readLines
   stops [] s x place e = absurd (let z : _≡_ {A = ℕ} 0 1 = cc in omega arith)
   stops (l ∷ ls) s x place e =
       go (checkOf text (l .content) (lineOf (l .content)) (s .opens)) refl e
@@ -132,8 +132,8 @@ module _ (text : List ℕ) where
       next : State
       next = after (l .start) (l .content) (lineOf (l .content)) s
 
-      go : (c : Check) → checkOf text (l .content) (lineOf (l .content)) (s .opens) ≡ c → onward c (l .start) (run text ls next) ≡ stopped x place
-          → (run text ls next ≡ stopped x place → Stopped ls next x place) → Stopped (l ∷ ls) s x place
+      go : (c : Check) → checkOf text (l .content) (lineOf (l .content)) (s .opens) ≡ c → onward c (l .start) (readLines text ls next) ≡ stopped x place
+          → (readLines text ls next ≡ stopped x place → Stopped ls next x place) → Stopped (l ∷ ls) s x place
       go Check.Fine c e ih =
           let w = ih e in
           record {
@@ -186,8 +186,8 @@ module _ (text : List ℕ) where
   -- ---- and the other way round
 
   -- empty lines add nothing
-  blank-reads : (ls : List Placed) (s : State) → Blank ls → run text ls s ≡ finished s
-  unfolding run All
+  blank-reads : (ls : List Placed) (s : State) → Blank ls → readLines text ls s ≡ finished s
+  unfolding readLines All
   blank-reads [] s b = refl
   blank-reads (l ∷ ls) s b =
       passed text l ls s (ap lineOf (b .0) ∙ is-empty [] refl) refl ∙ blank-reads ls s (b .1)
@@ -202,7 +202,7 @@ module _ (text : List ℕ) where
   leaves i b = begun-reads text b [] refl refl refl i
 
   broken-refused : {number place : ℕ} → Broken text number place → (x : Refusal) × (outcomeOf text ≡ Refused x place) × (numberOf x ≡ number)
-  unfolding run
+  unfolding readLines
   broken-refused (at-line {at = at} {content = content} {before = before} behind l b w) =
       let left = leaves (all-front (In text) before (line at content ∷ behind) (split-in l)) b in
       let x = refused-by text content w (left .opens) (left .many) (left .named) in (
@@ -213,7 +213,7 @@ module _ (text : List ℕ) where
   broken-refused (unclosed {ls = ls} l b some) =
       let left = leaves (split-in l) b in (
         Refusal.Unclosed,
-        outcome-is (run-split l ∙ ap (λ (ls : List Placed). run text ls nothing) (sym (append-nil ls)) ∙ left .reads [])
+        outcome-is (run-split l ∙ ap (λ (ls : List Placed). readLines text ls nothing) (sym (append-nil ls)) ∙ left .reads [])
             ∙ rw (ne-eqb (length (left .opens)) 0 (λ z. omega (arith, left .many))),
         refl,
       )

@@ -26,7 +26,7 @@ use Rattle.walking.proofs.Windows.{stands, in-order-if}
 use Rattle.nesting.specs.Rows.{entry, top, componentRow, propertyRow}
 use Rattle.nesting.specs.declared.Check.{Check}
 use Rattle.nesting.specs.declared.Entry.{Entry}
-use Rattle.nesting.specs.Steps.{State, nothing, inside, checkOf, closed, after, finished, run, runOf}
+use Rattle.nesting.specs.Steps.{State, nothing, ifOpen, checkOf, closed, after, finished, readLines, runOf}
 use Rattle.tables.specs.Lent.{Lent}
 use Rattle.reading.specs.Lent.{readInto, left}
 use Rattle.demands.specs.Lent.{toldOf, inOrderIn}
@@ -203,10 +203,10 @@ module _ (properties : List PropertyRow) (p : PropertyRow) where
         go false x false y =
             rw (new i d h (ltb-false i (length properties) x), new j d (omega arith) (ltb-false j (length properties) y)) (omega arith, omega arith)
 
-content : (s : State) → Ordered s → (at : ℕ) (line : List ℕ) (p : Property) → inside Check.Fine (s .opens) ≡ Check.Fine → Ordered (after at line (Content p) s)
+content : (s : State) → Ordered s → (at : ℕ) (line : List ℕ) (p : Property) → ifOpen Check.Fine (s .opens) ≡ Check.Fine → Ordered (after at line (Content p) s)
 content s m at line p within = go (s .opens) (m .opens) within
   where
-    go : (es : List Entry) → Opens (s .components) (s .properties) (length (s .components)) es → inside Check.Fine es ≡ Check.Fine
+    go : (es : List Entry) → Opens (s .components) (s .properties) (length (s .components)) es → ifOpen Check.Fine es ≡ Check.Fine
         → Ordered (after at line (Content p) (record { opens = es; components = s .components; properties = s .properties; parameters = s .parameters }))
     go [] os w = absurd (let z : _≡_ {A = ℕ} 0 1 = cc in omega arith)
     go (e ∷ es) (next b o os) w =
@@ -228,12 +228,12 @@ step s m text at line (End rest) c = record { opens = less (s .opens) (m .opens)
 step s m text at line (Content p) c = content s m at line p c
 step s m text at line (Bad fault) c = m
 
-all-lines : (text : List ℕ) (ls : List Placed) (s end : State) → Ordered s → run text ls s ≡ finished end → Ordered end
-unfolding run
+all-lines : (text : List ℕ) (ls : List Placed) (s end : State) → Ordered s → readLines text ls s ≡ finished end → Ordered end
+unfolding readLines
 all-lines text [] s end m e = let q : s ≡ end = cc in rw (← q) m
 all-lines text (l ∷ ls) s end m e =
     let line = lineOf (l .content) in
-    let g = goes-on (checkOf text (l .content) line (s .opens)) (l .start) (run text ls (after (l .start) (l .content) line s)) end e in
+    let g = goes-on (checkOf text (l .content) line (s .opens)) (l .start) (readLines text ls (after (l .start) (l .content) line s)) end e in
     all-lines text ls (after (l .start) (l .content) line s) end (step s m text (l .start) (l .content) line (g .0)) (g .1)
 
 -- the rows of a text that is read to the end are in order

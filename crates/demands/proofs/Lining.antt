@@ -14,7 +14,7 @@ use Rattle.octets.proofs.Bools.{both}
 use Rattle.octets.proofs.Runs.{through, whole-wider}
 use Rattle.unfolding.specs.Unfold.{unfolded, unfoldedAfter}
 use Rattle.unfolding.proofs.Laws.{Unbroken, line}
-use Rattle.folding.specs.Strict.{first, units, breakFor, roomFor, foldedUnits, strict}
+use Rattle.folding.specs.Strict.{first, units, breakFor, leftFor, foldedUnits, strict}
 use Rattle.lines.specs.Split.{toBreak, contentLen, lineLen, linesAfter, linesFrom}
 use Rattle.lines.proofs.Split.{first-line}
 use Rattle.tables.specs.Trees.{Property, Trees, none, tree}
@@ -126,8 +126,8 @@ folded-longer : (left : ℕ) (xs : List ℕ) → length xs ≤ length (foldedUni
 unfolding units foldedUnits
 folded-longer left [] = zero-le
 folded-longer left (x ∷ xs) =
-    let r = foldedUnits (roomFor left (x ∷ []) - 1) (units xs) in
-    omega (arith, length-append (breakFor left (x ∷ [])) (x ∷ r), folded-longer (roomFor left (x ∷ []) - 1) xs)
+    let r = foldedUnits (leftFor left (x ∷ []) - 1) (units xs) in
+    omega (arith, length-append (breakFor left (x ∷ [])) (x ∷ r), folded-longer (leftFor left (x ∷ []) - 1) xs)
 
 -- the lines take no more bytes than what was written
 pub shorter : (ls : List (List ℕ)) → length (plainLines ls) ≤ length (foldedLines ls)

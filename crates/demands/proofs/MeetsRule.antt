@@ -26,7 +26,7 @@ use Rattle.tables.proofs.Laws.{Shape, length-flat, rows-exact, component-shape,
 use Rattle.tables.proofs.Rule.{on, ended, Meets, not-broken}
 use Rattle.nesting.specs.Rows.{entry, top, componentRow, propertyRow, parameterRows}
 use Rattle.nesting.specs.declared.Check.{Check}
-use Rattle.nesting.specs.Steps.{State, nothing, inside, checkOf, closed, after, finished, runOf}
+use Rattle.nesting.specs.Steps.{State, nothing, ifOpen, checkOf, closed, after, finished, runOf}
 use Rattle.nesting.proofs.Lines.{deep, at-the-end}
 use Rattle.nesting.specs.declared.Entry.{Entry}
 use Rattle.reading.specs.declared.Reading.{Reading}
@@ -138,11 +138,11 @@ module _ {T at : ℕ} (s : State) {known : List Opened} (m : Meeting T at s know
           }
 
     -- a property more, with its parameters
-    module _ (p : Property) (sound : SoundProperty line p) (within : inside Check.Fine (s .opens) ≡ Check.Fine) where
+    module _ (p : Property) (sound : SoundProperty line p) (within : ifOpen Check.Fine (s .opens) ≡ Check.Fine) where
       one-property : length (s .properties ++ propertyOf s at p ∷ []) ≡ length (s .properties) + 1
       one-property = length-append (s .properties) (propertyOf s at p ∷ [])
 
-      owner : (es : List Entry) → Last (chain es) known → inside Check.Fine es ≡ Check.Fine → top es < length (s .components)
+      owner : (es : List Entry) → Last (chain es) known → ifOpen Check.Fine es ≡ Check.Fine → top es < length (s .components)
       owner [] l w = absurd (let z : _≡_ {A = ℕ} 0 1 = cc in omega arith)
       owner (e ∷ es) l w = first-below l (m .falling)
 

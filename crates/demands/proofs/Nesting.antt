@@ -25,7 +25,7 @@ use Rattle.tables.specs.declared.ComponentRow.{ComponentRow}
 use Rattle.tables.specs.declared.PropertyRow.{PropertyRow}
 use Rattle.tables.specs.declared.ParameterRow.{ParameterRow}
 use Rattle.nesting.specs.Rows.{top, entry, componentRow, propertyRow, parameterRow, parameterRows}
-use Rattle.nesting.specs.Steps.{State, nothing, checkOf, closed, after, Run, run}
+use Rattle.nesting.specs.Steps.{State, nothing, checkOf, closed, after, Run, readLines}
 use Rattle.nesting.specs.declared.Check.{Check}
 use Rattle.nesting.specs.declared.Entry.{Entry}
 use Rattle.writable.specs.WritingRule.{nameFits}
@@ -52,12 +52,12 @@ module _ (text : List ℕ) where
   record Reads (r : Run) (ls : List (List ℕ)) (s : State) : Type 0 where
     before : List ℕ
     split : text ≡ before ++ plainLines ls
-    same : r ≡ run text (placedFrom (length before) ls) s
+    same : r ≡ readLines text (placedFrom (length before) ls) s
 
   -- a line of which it is known what it is
   passed : {r : Run} (l : List ℕ) {ls : List (List ℕ)} {s : State} (w : Reads r (l ∷ ls) s) {k : Line} → lineOf l ≡ k → checkOf text l k (s .opens) ≡ Check.Fine
       → Reads r ls (after (length (w .before)) l k s)
-  unfolding plainLines placedFrom run
+  unfolding plainLines placedFrom readLines
   passed l {ls} {s} w {k} e c =
       let n : length (w .before ++ (l ++ cr ∷ lf ∷ [])) ≡ length (w .before) + length l + 2 = simp length-append (omega arith) in
       record {
@@ -223,7 +223,7 @@ module _ (text : List ℕ) where
 
   -- nothing stands before them, and nothing comes behind
   all-read : (ts : Trees) → Fit ts → Shallow deepest ts → text ≡ plainLines (linesOf ts)
-      → Grown (run text (placedFrom 0 (linesOf ts)) nothing) [] nothing ts
+      → Grown (readLines text (placedFrom 0 (linesOf ts)) nothing) [] nothing ts
   all-read ts fit h e =
       trees-read ts deepest nothing fit h refl
       record { before = []; split = rw append-nil e; same = rw append-nil }
@@ -231,10 +231,10 @@ module _ (text : List ℕ) where
 -- the lines of trees that fit the writing rule, nest no deeper than 64 and are few enough for the parent 4294967295 to be none of them
 module _ (ts : Trees) (fit : Fit ts) (shallow : Shallow deepest ts) (few : componentCount ts < noParent) where
   pub nests : (s : State) × Nests ts s
-  unfolding run placedFrom
+  unfolding readLines placedFrom
   nests = go (all-read (plainLines (linesOf ts)) ts fit shallow refl)
     where
-      go : Grown (plainLines (linesOf ts)) (run (plainLines (linesOf ts)) (placedFrom 0 (linesOf ts)) nothing) [] nothing ts → (s : State) × Nests ts s
+      go : Grown (plainLines (linesOf ts)) (readLines (plainLines (linesOf ts)) (placedFrom 0 (linesOf ts)) nothing) [] nothing ts → (s : State) × Nests ts s
       go g = (
         with-rows nothing (g .cs) (g .ps) (g .qs),
         record {

@@ -19,7 +19,7 @@ use Rattle.nesting.specs.Steps.{State, countsOf}
 use Rattle.reading.specs.Answers.{refusal}
 use Rattle.reading.specs.Lent.{roomIn, readInto, left}
 use Rattle.folding.specs.Pieces.{physical, Within}
-use Rattle.folding.specs.Strict.{first, strict, strictPieces, Filled}
+use Rattle.folding.specs.Strict.{first, strict, strictPieces, Full}
 use Rattle.folding.specs.Repository.{repository}
 use Rattle.folding.specs.Answers.{lineAnswer, foldAnswer}
 use Rattle.quoting.specs.Quoting.{quoted}
@@ -100,7 +100,7 @@ reading-meets-rule = done-meets
 -- 8. Unfolding gives back what either fold made of a line without LF; the strict fold has 75 octets at most in a physical line, and every one but
 -- the last is full. [B-60, B-62]
 pub folds-come-back : (line : List ℕ) → Unbroken line
-    → (unfolded (strict line) ≡ line) × (unfolded (repository line) ≡ line) × Within 75 (physical (strictPieces line)) × Filled first (strictPieces line)
+    → (unfolded (strict line) ≡ line) × (unfolded (repository line) ≡ line) × Within 75 (physical (strictPieces line)) × Full first (strictPieces line)
 folds-come-back line w = (strict-unfolds line w, repository-unfolds line w, strict-75 line, strict-full line)
 
 -- 9. The round trip: what the writer accepts, written and then read with room enough, is Done and stands for the same trees. Room enough is as many

@@ -18,7 +18,7 @@ use Rattle.lines.specs.Split.{linesAfter}
 use Rattle.lines.specs.Rule.{lineOf}
 use Rattle.tables.specs.Rows.{noParent, flat, rowAt, rowsOf}
 use Rattle.tables.proofs.Laws.{Shape, length-flat, rows-back, component-shape, property-shape, parameter-shape}
-use Rattle.nesting.specs.Steps.{State, countsOf, run}
+use Rattle.nesting.specs.Steps.{State, countsOf, readLines}
 use Rattle.reading.specs.Answers.{told, textAfter}
 use Rattle.reading.specs.declared.Reading.{Reading}
 use Rattle.tables.specs.Lent.{Lent}
@@ -91,5 +91,5 @@ pub some-readable : Readable feedOfThree
       properties = record { owner = 0; «key_start» = 8; «key_len» = 1; «value_start» = 10; «value_len» = 1 } ∷ [];
       parameters = [];
     })
-unfolding unfoldedAfter linesAfter byteRun startsWord sameBytes lineOf frontOf paramsAfter paramsUsed run
+unfolding unfoldedAfter linesAfter byteRun startsWord sameBytes lineOf frontOf paramsAfter paramsUsed readLines
 some-readable = record { short = omega arith; reads = refl; closed = refl; some = omega arith }

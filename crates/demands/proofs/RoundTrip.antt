@@ -18,7 +18,7 @@ use Rattle.tables.proofs.Rule.{meets}
 use Rattle.tables.proofs.Nested.{rows-nested}
 use Rattle.walking.proofs.Siblings.{end-within}
 use Rattle.walking.proofs.Sizes.{tree-components, all-components, all-properties, all-parameters}
-use Rattle.nesting.specs.Steps.{State, nothing, run, finished}
+use Rattle.nesting.specs.Steps.{State, nothing, readLines, finished}
 use Rattle.reading.specs.Lent.{readInto, left}
 use Rattle.reading.specs.declared.Reading.{Reading}
 use Rattle.printing.specs.Lines.{endLine, propertyLine, written}
@@ -74,8 +74,8 @@ same-written ts us f g l m c d e = as-one (nests ts f l c .0) (nests us g m d .0
 
     as-one : (s t : State) → Nests ts s → Nests us t → ts ≡ us
     as-one s t n k =
-        let runs : run (plainLines (linesOf us)) (linesFrom 0 (plainLines (linesOf us))) nothing ≡ finished s = rw text at (rw (← lines-are ts f) at (n .runs)) in
-        let runs′ : run (plainLines (linesOf us)) (linesFrom 0 (plainLines (linesOf us))) nothing ≡ finished t = rw (lines-are us g) (k .runs) in
+        let runs : readLines (plainLines (linesOf us)) (linesFrom 0 (plainLines (linesOf us))) nothing ≡ finished s = rw text at (rw (← lines-are ts f) at (n .runs)) in
+        let runs′ : readLines (plainLines (linesOf us)) (linesFrom 0 (plainLines (linesOf us))) nothing ≡ finished t = rw (lines-are us g) (k .runs) in
         let same : s ≡ t = cc in
         sym (n .trees) ∙ (rw (text, same) (k .trees))
 

@@ -23,7 +23,7 @@ use Rattle.tables.specs.declared.ComponentRow.{ComponentRow}
 use Rattle.tables.specs.declared.PropertyRow.{PropertyRow}
 use Rattle.tables.specs.declared.ParameterRow.{ParameterRow}
 use Rattle.nesting.specs.Rows.{top, entry, propertyRow}
-use Rattle.nesting.specs.Steps.{State, checkOf, after, finished, run}
+use Rattle.nesting.specs.Steps.{State, checkOf, after, finished, readLines}
 use Rattle.nesting.specs.declared.Check.{Check}
 use Rattle.nesting.specs.declared.Entry.{Entry}
 use Rattle.nesting.specs.declared.Refusal.{Refusal}
@@ -31,7 +31,7 @@ use Rattle.nesting.proofs.Lines.{goes-on, deep}
 use Rattle.demands.specs.Returning.{All}
 use Rattle.demands.specs.LineGrammar.{Opens, Closes, PropertyLine}
 use Rattle.demands.specs.GrammarRefusals.{Begun, in-this, in-another}
-use Rattle.demands.specs.Grammar.{noRow, Rows, opened, withComponent, withProperty, line, Body, no-line, empty-line, a-property, a-component}
+use Rattle.demands.specs.Grammar.{noRow, Rows, openedRow, withComponent, withProperty, line, Body, no-line, empty-line, a-property, a-component}
 use Rattle.demands.proofs.Scanning.{viewed-in}
 use Rattle.demands.proofs.SaidLines.{size-mark, opens-read, opens-name, closes-read, closes-name, property-read, Says, says}
 
@@ -99,7 +99,7 @@ module _ (text : List ℕ) where
   -- a component that is opened here is not closed; or its body and its closing line stand in front of lines where those around it are open
   opening-line : {es : List Entry} {e : Entry} {r r′ : Rows} {depth : ℕ} {last : List ℕ} {c : ComponentRow} (at : ℕ) {name opening : List ℕ} {ls : List Placed}
       → length es < deepest → Opens name opening → viewed text (e .start) (e .len) ≡ name → e .row ≡ length (r .components)
-      → c ≡ opened (top es) (suc (length es)) at name
+      → c ≡ openedRow (top es) (suc (length es)) at name
       → Left (e ∷ es) (withComponent r c) ls depth last r′ → Left es r (line at opening ∷ ls) depth last r′
   opening-line at d o n w c (still b) = still (in-another at no-line d o (rw (w, n, c) at b))
   opening-line {es} {r = r} {r′ = r′} {depth} {last} at {name} {opening} d o n w c (shut at′ {ls₁ = ls₁} {ls₂ = ls₂} {closing = closing} b x rest) =
@@ -164,15 +164,15 @@ module _ (text : List ℕ) where
         bad (e ∷ es) c = no-check c
 
   -- lines that are read, each where it may stand
-  pub left-of : (ls : List Placed) → All (In text) ls → (es : List Entry) (r : Rows) (last : State) → run text ls (state es r) ≡ finished last
+  pub left-of : (ls : List Placed) → All (In text) ls → (es : List Entry) (r : Rows) (last : State) → readLines text ls (state es r) ≡ finished last
       → Left es r ls (length (last .opens)) (innermost (last .opens)) (rows last)
-  unfolding run All
+  unfolding readLines All
   left-of [] i es r last e =
       let q : state es r ≡ last = cc in
       subst (λ (s : State). Left es r [] (length (s .opens)) (innermost (s .opens)) (rows s)) q (still (in-this no-line))
   left-of (l ∷ ls) i es r last e =
       let s : State = after (l .start) (l .content) (lineOf (l .content)) (state es r) in
-      let g = goes-on (checkOf text (l .content) (lineOf (l .content)) es) (l .start) (run text ls s) last e in
+      let g = goes-on (checkOf text (l .content) (lineOf (l .content)) es) (l .start) (readLines text ls s) last e in
       step l es (i .0) (lineOf (l .content)) (g .0) (says (l .start) (top es) (length (r .properties)) (l .content))
       (left-of ls (i .1) (s .opens) (rows s) last (g .1))
 
@@ -195,14 +195,14 @@ all-back so (x ∷ xs) ys a = all-back so xs ys (a .1)
 module _ (text : List ℕ) where
   -- a line of which it is known what it is
   pub passed : (l : Placed) (ls : List Placed) (s : State) {k : Line} → lineOf (l .content) ≡ k → checkOf text (l .content) k (s .opens) ≡ Check.Fine
-      → run text (l ∷ ls) s ≡ run text ls (after (l .start) (l .content) k s)
-  unfolding run
+      → readLines text (l ∷ ls) s ≡ readLines text ls (after (l .start) (l .content) k s)
+  unfolding readLines
   passed l ls s e c = rw (e, c)
 
   -- a property line where a component is open
   property-passed : {at owner depth : ℕ} {content : List ℕ} {p : PropertyRow} {qs : List ParameterRow} (r : Rows) (es : List Entry) (more : List Placed)
       → 0 < depth → depth ≡ length es → owner ≡ top es → PropertyLine at owner (length (r .properties)) content p qs
-      → run text (line at content ∷ more) (state es r) ≡ run text more (state es (withProperty r p qs))
+      → readLines text (line at content ∷ more) (state es r) ≡ readLines text more (state es (withProperty r p qs))
   property-passed r [] more h d o x = absurd (omega arith)
   property-passed {at} {owner} {content = content} r (e ∷ es) more h d o x =
       let q = property-read at owner (length (r .properties)) x in
@@ -210,7 +210,7 @@ module _ (text : List ℕ) where
       ∙ same (sym (q .1 .row-is ∙ ap (λ (x : ℕ). propertyRow x at (q .0)) o)) (sym (q .1 .rows-are))
     where
       same : {p p′ : PropertyRow} {qs qs′ : List ParameterRow} → p ≡ p′ → qs ≡ qs′
-          → run text more (state (e ∷ es) (withProperty r p qs)) ≡ run text more (state (e ∷ es) (withProperty r p′ qs′))
+          → readLines text more (state (e ∷ es) (withProperty r p qs)) ≡ readLines text more (state (e ∷ es) (withProperty r p′ qs′))
       same a b = cc
 
   -- an opening line where fewer than 64 are open, and a closing line of the innermost component
@@ -219,19 +219,19 @@ module _ (text : List ℕ) where
 
   begin-passed : (at : ℕ) {depth owner : ℕ} {name opening : List ℕ} (r : Rows) (es : List Entry) (more : List Placed)
       → depth < deepest → depth ≡ length es → owner ≡ top es → Opens name opening
-      → run text (line at opening ∷ more) (state es r)
-      ≡ run text more (state (entered r at name ∷ es) (withComponent r (opened owner (suc depth) at name)))
+      → readLines text (line at opening ∷ more) (state es r)
+      ≡ readLines text more (state (entered r at name ∷ es) (withComponent r (openedRow owner (suc depth) at name)))
   begin-passed at {opening = opening} r es more d n w o =
       passed (line at opening) more (state es r) (opens-read o) (rw (lt-ltb (length es) deepest (omega arith))) ∙ rw (n, w, add-one (length es))
 
   end-passed : (at : ℕ) {name closing : List ℕ} (e : Entry) (es : List Entry) (r : Rows) (more : List Placed)
-      → viewed text (e .start) (e .len) ≡ name → Closes name closing → run text (line at closing ∷ more) (state (e ∷ es) r) ≡ run text more (state es r)
+      → viewed text (e .start) (e .len) ≡ name → Closes name closing → readLines text (line at closing ∷ more) (state (e ∷ es) r) ≡ readLines text more (state es r)
   end-passed at {name} {closing} e es r more n c =
       passed (line at closing) more (state (e ∷ es) r) (closes-read c) (rw (closes-name c, n, same-refl name))
 
   -- the lines of a body are read where so many are open
   pub body-reads : {depth owner : ℕ} {r r′ : Rows} {ls : List Placed} → Body depth owner r ls r′ → (es : List Entry) → depth ≡ length es → owner ≡ top es
-      → All (In text) ls → (more : List Placed) → run text (ls ++ more) (state es r) ≡ run text more (state es r′)
+      → All (In text) ls → (more : List Placed) → readLines text (ls ++ more) (state es r) ≡ readLines text more (state es r′)
   unfolding All
   body-reads no-line es n w i more = refl
   body-reads (empty-line {at = at} {ls = ls} {r = r} b) es n w i more =
@@ -240,7 +240,7 @@ module _ (text : List ℕ) where
   body-reads (a-component at at′ {depth = depth} {owner = owner} {name = name} {opening = opening} {closing = closing} {inner = inner} {ls = ls} {r = r} {r′ = r′} d o b c later) es n w i more =
       let around = all-back (In text) inner (line at′ closing ∷ ls) (i .1) in
       begin-passed at r es ((inner ++ line at′ closing ∷ ls) ++ more) d n w o
-      ∙ ap (λ (l : List Placed). run text l (state (entered r at name ∷ es) (withComponent r (opened owner (suc depth) at name)))) (append-assoc inner (line at′ closing ∷ ls) more)
+      ∙ ap (λ (l : List Placed). readLines text l (state (entered r at name ∷ es) (withComponent r (openedRow owner (suc depth) at name)))) (append-assoc inner (line at′ closing ∷ ls) more)
       ∙ body-reads b (entered r at name ∷ es) (ap suc n) refl (all-front (In text) inner (line at′ closing ∷ ls) (i .1)) (line at′ closing ∷ (ls ++ more))
       ∙ end-passed at′ (entered r at name) es r′ (ls ++ more) (name-in text (line at opening) (i .0) o) c
       ∙ body-reads later es n w (around .1) more
@@ -250,7 +250,7 @@ module _ (text : List ℕ) where
     pub opens : List Entry
     pub many : length opens ≡ depth
     pub named : innermost text opens ≡ name
-    pub reads : (more : List Placed) → run text (ls ++ more) s ≡ run text more (state opens r)
+    pub reads : (more : List Placed) → readLines text (ls ++ more) s ≡ readLines text more (state opens r)
 
   pub begun-reads : {depth owner depth′ : ℕ} {name name′ : List ℕ} {r r′ : Rows} {ls : List Placed} → Begun depth owner name r ls depth′ name′ r′
       → (es : List Entry) → depth ≡ length es → owner ≡ top es → innermost text es ≡ name → All (In text) ls → Leaves ls (state es r) depth′ name′ r′
@@ -265,7 +265,7 @@ module _ (text : List ℕ) where
         named = deeper .named;
         reads =
             λ rest.
-            ap (λ (l : List Placed). run text l (state es r)) (append-assoc ls (line at opening ∷ inner) rest)
+            ap (λ (l : List Placed). readLines text l (state es r)) (append-assoc ls (line at opening ∷ inner) rest)
             ∙ body-reads b es n w (all-front (In text) ls (line at opening ∷ inner) i) (line at opening ∷ (inner ++ rest))
             ∙ begin-passed at r′ es (inner ++ rest) d n w o
             ∙ deeper .reads rest;

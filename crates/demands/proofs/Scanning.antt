@@ -40,7 +40,7 @@ use Rattle.quoting.specs.Quoting.{wraps, quoted}
 use Rattle.writable.specs.WritingRule.{nameFits, noBreak, presentFits, valueFits}
 use Rattle.printing.specs.Lines.{beginLine, endLine, valueText, parameterText, parametersText, propertyLine}
 use Rattle.demands.specs.Writable.{Writable}
-use Rattle.demands.specs.Returning.{All, linesOf, Plain, parameterFits, FitProperty, Fit, Scanned}
+use Rattle.demands.specs.Returning.{All, linesOf, Plain, fitParameter, FitProperty, Fit, Scanned}
 use Rattle.demands.proofs.Quotes.{quoted-back}
 
 -- ---- what fits
@@ -169,7 +169,7 @@ writable v h =
     record { some = ltb-true 0 (length v) (e .0); rule = both (only noBreak v) _ (e .1) .1 }
 
 -- what is written of a parameter is read as that parameter
-read-back : (k : List ℕ) (v : Value) → parameterFits (record { key = k; value = v }) ≡ true → (next : List ℕ) → Ends next
+read-back : (k : List ℕ) (v : Value) → fitParameter (record { key = k; value = v }) ≡ true → (next : List ℕ) → Ends next
     → (q : Param) × ReadBack (parameterText (record { key = k; value = v }) ++ next) (record { key = k; value = v }) next q
 read-back k absent h next e =
     let f = both (only keyByte k) _ h in
@@ -219,7 +219,7 @@ module _ (before rest after : List ℕ) (number : ℕ) where
       wide (Present a) h w = omega arith
 
 abbrev FitParameters : List Parameter → Type 0
-FitParameters ps = All (λ (p : Parameter). parameterFits p ≡ true) ps
+FitParameters ps = All (λ (p : Parameter). fitParameter p ≡ true) ps
 
 -- what stands behind the key of a property: the parameters, a colon and the value
 abbrev behindKey : List Parameter → List ℕ → List ℕ
@@ -246,7 +246,7 @@ module _ (value : List ℕ) where
   params-end : (at : ℕ) → paramsAfter at 0 (colon ∷ value) ≡ []
   params-end at = stop at (colon ∷ value) (sym (front-none (colon ∷ value) (λ e. omega arith)))
 
-  module _ (p : Parameter) (ps : List Parameter) (fits : parameterFits p ≡ true) where
+  module _ (p : Parameter) (ps : List Parameter) (fits : fitParameter p ≡ true) where
     first : (q : Param) × ReadBack (parameterText p ++ behindKey ps value) p (behindKey ps value) q
     first = read-back (p .key) (p .value) fits (behindKey ps value) (behind-off bare refl refl ps value)
 

@@ -43,8 +43,8 @@ abbrev pub noRows : Rows
 noRows = record { components = []; properties = []; parameters = [] }
 
 -- "parent row or 4294967295 for none, depth, name start, name length": the name stands behind `BEGIN:`, which has 6 bytes
-abbrev pub opened : ℕ → ℕ → ℕ → List ℕ → ComponentRow
-opened parent depth at name = record { parent = parent; depth = depth; «name_start» = at + 6; «name_len» = length name }
+abbrev pub openedRow : ℕ → ℕ → ℕ → List ℕ → ComponentRow
+openedRow parent depth at name = record { parent = parent; depth = depth; «name_start» = at + 6; «name_len» = length name }
 
 abbrev pub withComponent : Rows → ComponentRow → Rows
 withComponent r c = record { components = r .components ++ c ∷ []; properties = r .properties; parameters = r .parameters }
@@ -69,7 +69,7 @@ pub data Body : ℕ → ℕ → Rows → List Placed → Rows → Type 0 where
   -- a component: an opening line, a body and a closing line with the same name; 64 of them nest, and no more
   a-component : (at at′ : ℕ) {depth owner : ℕ} {name opening closing : List ℕ} {inner ls : List Placed} {r r′ r″ : Rows}
       → depth < 64 → Opens name opening
-      → Body (suc depth) (length (r .components)) (withComponent r (opened owner (suc depth) at name)) inner r′
+      → Body (suc depth) (length (r .components)) (withComponent r (openedRow owner (suc depth) at name)) inner r′
       → Closes name closing → Body depth owner r′ ls r″
       → Body depth owner r (line at opening ∷ (inner ++ line at′ closing ∷ ls)) r″
 

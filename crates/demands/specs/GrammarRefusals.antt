@@ -11,7 +11,7 @@ use Rattle.tables.specs.declared.PropertyRow.{PropertyRow}
 use Rattle.tables.specs.declared.ParameterRow.{ParameterRow}
 use Rattle.demands.specs.Returning.{All}
 use Rattle.demands.specs.LineGrammar.{Some, begin, end, Marked, Opens, PropertyLine}
-use Rattle.demands.specs.Grammar.{line, Lines, noRow, Rows, noRows, opened, withComponent, Body}
+use Rattle.demands.specs.Grammar.{line, Lines, noRow, Rows, noRows, openedRow, withComponent, Body}
 
 -- Lines that begin a body and may leave components open: lines of the body itself, and then the opening line of a component and lines that begin the body
 -- of that one. Behind them so many components are open, the innermost with this name.
@@ -19,7 +19,7 @@ pub data Begun : ℕ → ℕ → List ℕ → Rows → List Placed → ℕ → L
   in-this : {depth owner : ℕ} {name : List ℕ} {ls : List Placed} {r r′ : Rows} → Body depth owner r ls r′ → Begun depth owner name r ls depth name r′
   in-another : (at : ℕ) {depth owner depth′ : ℕ} {name other opening name′ : List ℕ} {ls inner : List Placed} {r r′ r″ : Rows}
       → Body depth owner r ls r′ → depth < 64 → Opens other opening
-      → Begun (suc depth) (length (r′ .components)) other (withComponent r′ (opened owner (suc depth) at other)) inner depth′ name′ r″
+      → Begun (suc depth) (length (r′ .components)) other (withComponent r′ (openedRow owner (suc depth) at other)) inner depth′ name′ r″
       → Begun depth owner name r (ls ++ line at opening ∷ inner) depth′ name′ r″
 
 -- a line that is not empty and begins with neither `BEGIN:` nor `END:` in any case

@@ -18,7 +18,7 @@ use Rattle.tables.specs.Trees.{Parameter, Property, Trees, none, tree, paramete
 use Rattle.tables.specs.Sizes.{componentCount, propertyCount, parameterCount}
 use Rattle.tables.specs.Lent.{Lent, componentsIn, propertiesIn, parametersIn}
 use Rattle.nesting.specs.Rows.{parameterRows}
-use Rattle.nesting.specs.Steps.{State, nothing, run, finished}
+use Rattle.nesting.specs.Steps.{State, nothing, readLines, finished}
 use Rattle.reading.specs.Lent.{roomIn}
 use Rattle.writable.specs.WritingRule.{nameFits, keyFits, noBreak, valueFits}
 use Rattle.printing.specs.Lines.{closedLine, beginLine, endLine, propertyLine, written}
@@ -61,13 +61,13 @@ pub record Plain (line : List ℕ) : Type 0 where
 
 -- ---- what the writing rule asks of trees
 
-abbrev pub parameterFits : Parameter → Bool
-parameterFits p = only keyByte (p .key) && valueFits (p .value)
+abbrev pub fitParameter : Parameter → Bool
+fitParameter p = only keyByte (p .key) && valueFits (p .value)
 
 pub record FitProperty (p : Property) : Type 0 where
   pub key : keyFits (p .key) ≡ true
   pub value : only noBreak (p .value) ≡ true
-  pub parameters : All (λ (q : Parameter). parameterFits q ≡ true) (p .parameters)
+  pub parameters : All (λ (q : Parameter). fitParameter q ≡ true) (p .parameters)
 
 unfoldable pub Fit : Trees → Type 0
 Fit none = Unit {0}
@@ -93,7 +93,7 @@ pub record Scanned (p : Property) (q : scanned.Property) : Type 0 where
 
 -- what the lines of trees are read to: the same trees, with a row for each component, property and parameter
 pub record Nests (ts : Trees) (s : State) : Type 0 where
-  pub runs : run (plainLines (linesOf ts)) (placedFrom 0 (linesOf ts)) nothing ≡ finished s
+  pub runs : readLines (plainLines (linesOf ts)) (placedFrom 0 (linesOf ts)) nothing ≡ finished s
   pub closed : s .opens ≡ []
   pub trees : treesOf (plainLines (linesOf ts)) (s .components) (s .properties) (s .parameters) ≡ ts
   pub components : length (s .components) ≡ componentCount ts

@@ -11,7 +11,7 @@ use borrow.Author.Tests.{le-leb, lt-leb, leb-false}
 use Rattle.octets.specs.Choice.{pick}
 use Rattle.octets.specs.Laid.{most, Lays}
 use Rattle.octets.proofs.Writing.{Writing, start, more, end, from-as}
-use Rattle.folding.specs.Pieces.{brk, broken, joined}
+use Rattle.folding.specs.Pieces.{brk, behindBreaks, joined}
 use Rattle.folding.specs.Strict.{first, later}
 use Rattle.folding.specs.Repository.{white, cut, cuts, piecesOf, repository, repositoryPieces}
 
@@ -59,18 +59,18 @@ rest-long width rest w h = by (length rest) refl
         ∙ rw (enough n (length (drop (cut width rest) rest)) later (drop (cut width rest) rest) (omega arith) (less n width rest w (omega arith)) (omega arith))
 
 -- a list of pieces is never empty, so that a break stands before what is left
-broken-cuts : (n width : ℕ) (rest : List ℕ) → broken (cuts n width rest) ≡ brk ++ joined (cuts n width rest)
-unfolding cuts broken
+broken-cuts : (n width : ℕ) (rest : List ℕ) → behindBreaks (cuts n width rest) ≡ brk ++ joined (cuts n width rest)
+unfolding cuts behindBreaks
 broken-cuts zero width rest = refl
 broken-cuts (suc n) width rest = by (leb (length rest) first)
   where
-    by : (t : Bool) → broken (pick t (rest ∷ []) (take (cut width rest) rest ∷ cuts n later (drop (cut width rest) rest)))
+    by : (t : Bool) → behindBreaks (pick t (rest ∷ []) (take (cut width rest) rest ∷ cuts n later (drop (cut width rest) rest)))
         ≡ brk ++ joined (pick t (rest ∷ []) (take (cut width rest) rest ∷ cuts n later (drop (cut width rest) rest)))
     by true = refl
     by false = refl
 
 pub join-short : (width : ℕ) (rest : List ℕ) → length rest ≤ first → joined (piecesOf width rest) ≡ rest
-unfolding broken
+unfolding behindBreaks
 join-short width rest h = rw (rest-short width rest h) (append-nil rest)
 
 pub join-long : (width : ℕ) (rest : List ℕ) → 1 < width → first < length rest
@@ -84,7 +84,7 @@ repository-short line h = join-short first line h
 
 -- a byte has a break in front of it at most
 cuts-length : (n width : ℕ) (rest : List ℕ) → 1 < width → length (joined (cuts n width rest)) ≤ 4 * length rest
-unfolding cuts broken
+unfolding cuts behindBreaks
 cuts-length zero width rest w = rw append-nil (omega arith)
 cuts-length (suc n) width rest w = by (leb (length rest) first) refl (cuts-length n later (drop (cut width rest) rest) (omega arith))
   where

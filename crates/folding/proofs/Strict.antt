@@ -12,8 +12,8 @@ use Rattle.octets.specs.Choice.{pick}
 use Rattle.octets.specs.Laid.{most, Lays}
 use Rattle.octets.proofs.Writing.{Writing, start, more, end, from-as}
 use Rattle.octets.specs.Bytes.{space}
-use Rattle.folding.specs.Pieces.{brk, broken, joined, physical, Within}
-use Rattle.folding.specs.Strict.{first, later, units, breakFor, roomFor, foldedUnits, leftAfter, strict, onto, kept, packed, strictPieces, FilledFrom, Filled}
+use Rattle.folding.specs.Pieces.{brk, behindBreaks, joined, physical, Within}
+use Rattle.folding.specs.Strict.{first, later, units, breakFor, leftFor, foldedUnits, leftAfter, strict, onto, kept, packed, strictPieces, FullFrom, Full}
 
 -- ---- two parts in turn
 
@@ -26,19 +26,19 @@ pub fold-append : (left : ℕ) (us vs : List (List ℕ))
     → foldedUnits left (us ++ vs) ≡ foldedUnits left us ++ foldedUnits (leftAfter left us) vs
 unfolding foldedUnits leftAfter
 fold-append left [] vs = refl
-fold-append left (u ∷ us) vs = rw (fold-append (roomFor left u - length u) us vs) (simp append-assoc)
+fold-append left (u ∷ us) vs = rw (fold-append (leftFor left u - length u) us vs) (simp append-assoc)
 
 pub left-append : (left : ℕ) (us vs : List (List ℕ)) → leftAfter left (us ++ vs) ≡ leftAfter (leftAfter left us) vs
 unfolding leftAfter
 left-append left [] vs = refl
-left-append left (u ∷ us) vs = left-append (roomFor left u - length u) us vs
+left-append left (u ∷ us) vs = left-append (leftFor left u - length u) us vs
 
 -- ---- bytes: what fits stays as it is, and what does not fills its line first
 
 fits : (l : ℕ) → leb 1 (suc l) ≡ true
 fits l = le-leb 1 (suc l) (omega arith)
 
-less : (l x : ℕ) → roomFor (suc l) (x ∷ []) - 1 ≡ l
+less : (l x : ℕ) → leftFor (suc l) (x ∷ []) - 1 ≡ l
 less l x = rw (fits l) (omega arith)
 
 pub fold-fits : (left : ℕ) (xs : List ℕ) → length xs ≤ left → foldedUnits left (units xs) ≡ xs
@@ -82,18 +82,18 @@ pub fold-length : (left : ℕ) (xs : List ℕ) → length (foldedUnits left (uni
 unfolding units foldedUnits
 fold-length left [] = zero-le
 fold-length left (x ∷ xs) =
-    let r = foldedUnits (roomFor left (x ∷ []) - 1) (units xs) in
-    omega (arith, length-append (breakFor left (x ∷ [])) (x ∷ r), break-length left (x ∷ []), fold-length (roomFor left (x ∷ []) - 1) xs)
+    let r = foldedUnits (leftFor left (x ∷ []) - 1) (units xs) in
+    omega (arith, length-append (breakFor left (x ∷ [])) (x ∷ r), break-length left (x ∷ []), fold-length (leftFor left (x ∷ []) - 1) xs)
 
 -- ---- by its pieces
 
 joined-onto : (u : List ℕ) (ps : List (List ℕ)) → joined (onto u ps) ≡ u ++ joined ps
-unfolding broken
+unfolding behindBreaks
 joined-onto u [] = refl
-joined-onto u (p ∷ ps) = append-assoc u p (broken ps)
+joined-onto u (p ∷ ps) = append-assoc u p (behindBreaks ps)
 
-broken-onto : (u : List ℕ) (ps : List (List ℕ)) → broken (onto u ps) ≡ brk ++ (u ++ joined ps)
-unfolding broken
+broken-onto : (u : List ℕ) (ps : List (List ℕ)) → behindBreaks (onto u ps) ≡ brk ++ (u ++ joined ps)
+unfolding behindBreaks
 broken-onto u [] = refl
 broken-onto u (p ∷ ps) = rw (append-assoc u)
 
@@ -104,9 +104,9 @@ flatten-onto u (p ∷ ps) = append-assoc u p (flatten ps)
 
 -- the units folded are their pieces joined
 pub fold-joins : (left : ℕ) (us : List (List ℕ)) → foldedUnits left us ≡ joined (packed left us)
-unfolding foldedUnits packed broken
+unfolding foldedUnits packed behindBreaks
 fold-joins left [] = refl
-fold-joins left (u ∷ us) = rw (fold-joins (roomFor left u - length u) us) (by (leb (length u) left) (packed (roomFor left u - length u) us))
+fold-joins left (u ∷ us) = rw (fold-joins (leftFor left u - length u) us) (by (leb (length u) left) (packed (leftFor left u - length u) us))
   where
     by : (t : Bool) (ps : List (List ℕ)) → pick t [] brk ++ (u ++ joined ps) ≡ joined (kept t (onto u ps))
     by true ps = sym (joined-onto u ps)
@@ -116,7 +116,7 @@ fold-joins left (u ∷ us) = rw (fold-joins (roomFor left u - length u) us) (by 
 pub pack-flatten : (left : ℕ) (us : List (List ℕ)) → flatten (packed left us) ≡ flatten us
 unfolding flatten packed
 pack-flatten left [] = refl
-pack-flatten left (u ∷ us) = by (leb (length u) left) (packed (roomFor left u - length u) us) (pack-flatten (roomFor left u - length u) us)
+pack-flatten left (u ∷ us) = by (leb (length u) left) (packed (leftFor left u - length u) us) (pack-flatten (leftFor left u - length u) us)
   where
     by : (t : Bool) (ps : List (List ℕ)) → flatten ps ≡ flatten us → flatten (kept t (onto u ps)) ≡ u ++ flatten us
     by true ps e = flatten-onto u ps ∙ rw e
@@ -133,34 +133,34 @@ strict-joins line = fold-joins first (units line)
 pub strict-keeps : (line : List ℕ) → flatten (strictPieces line) ≡ line
 strict-keeps line = pack-flatten first (units line) ∙ units-flatten line
 
-filled-onto : (x l : ℕ) (ps : List (List ℕ)) → Filled l ps → Filled (suc l) (onto (x ∷ []) ps)
-unfolding FilledFrom
+filled-onto : (x l : ℕ) (ps : List (List ℕ)) → Full l ps → Full (suc l) (onto (x ∷ []) ps)
+unfolding FullFrom
 filled-onto x l [] f = absurd f
 filled-onto x l (p ∷ []) h = omega arith
 filled-onto x l (p ∷ (q ∷ ps)) (h, f) = (ap suc h, f)
 
-filled-new : (x : ℕ) (ps : List (List ℕ)) → Filled later (onto (x ∷ []) ps) → Filled 0 ([] ∷ onto (x ∷ []) ps)
-unfolding FilledFrom
+filled-new : (x : ℕ) (ps : List (List ℕ)) → Full later (onto (x ∷ []) ps) → Full 0 ([] ∷ onto (x ∷ []) ps)
+unfolding FullFrom
 filled-new x [] f = (refl, (omega arith, f))
 filled-new x (p ∷ ps) f = (refl, (omega arith, f))
 
-pack-fills : (left : ℕ) (xs : List ℕ) → Filled left (packed left (units xs))
-unfolding units packed FilledFrom
+pack-fills : (left : ℕ) (xs : List ℕ) → Full left (packed left (units xs))
+unfolding units packed FullFrom
 pack-fills left [] = zero-le
 pack-fills zero (x ∷ xs) = filled-new x (packed (later - 1) (units xs)) (filled-onto x (later - 1) (packed (later - 1) (units xs)) (pack-fills (later - 1) xs))
 pack-fills (suc l) (x ∷ xs) = rw (less l x, fits l) (filled-onto x l (packed l (units xs)) (pack-fills l xs))
 
-pub strict-fills : (line : List ℕ) → Filled first (strictPieces line)
+pub strict-fills : (line : List ℕ) → Full first (strictPieces line)
 strict-fills line = pack-fills first line
 
 -- no physical line has more than 75 octets without its break (RFC 5545, section 3.1)
-later-within : (q : List ℕ) (ps : List (List ℕ)) → FilledFrom later q ps → Within 75 (map (λ (p : List ℕ). space ∷ p) (q ∷ ps))
-unfolding FilledFrom Within
+later-within : (q : List ℕ) (ps : List (List ℕ)) → FullFrom later q ps → Within 75 (map (λ (p : List ℕ). space ∷ p) (q ∷ ps))
+unfolding FullFrom Within
 later-within q [] f = (omega arith, tt)
 later-within q (r ∷ ps) (e, (k, f)) = (omega arith, later-within r ps f)
 
-filled-within : (ps : List (List ℕ)) → Filled first ps → Within 75 (physical ps)
-unfolding FilledFrom Within
+filled-within : (ps : List (List ℕ)) → Full first ps → Within 75 (physical ps)
+unfolding FullFrom Within
 filled-within [] f = absurd f
 filled-within (p ∷ []) f = (f, tt)
 filled-within (p ∷ (q ∷ ps)) (e, (k, f)) = (omega arith, later-within q ps f)

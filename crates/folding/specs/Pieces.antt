@@ -10,14 +10,14 @@ abbrev pub brk : List ℕ
 brk = cr ∷ lf ∷ space ∷ []
 
 -- each piece behind a break
-unfoldable pub broken : List (List ℕ) → List ℕ
-broken [] = []
-broken (p ∷ ps) = brk ++ (p ++ broken ps)
+unfoldable pub behindBreaks : List (List ℕ) → List ℕ
+behindBreaks [] = []
+behindBreaks (p ∷ ps) = brk ++ (p ++ behindBreaks ps)
 
 -- the first piece as it is, each later one behind a break
 abbrev pub joined : List (List ℕ) → List ℕ
 joined [] = []
-joined (p ∷ ps) = p ++ broken ps
+joined (p ∷ ps) = p ++ behindBreaks ps
 
 -- the physical lines without their breaks: each later piece behind its space
 abbrev pub physical : List (List ℕ) → List (List ℕ)

@@ -27,18 +27,18 @@ units (x ∷ xs) = (x ∷ []) ∷ units xs
 abbrev pub breakFor : ℕ → List ℕ → List ℕ
 breakFor left u = pick (leb (length u) left) [] brk
 
-abbrev pub roomFor : ℕ → List ℕ → ℕ
-roomFor left u = pick (leb (length u) left) left later
+abbrev pub leftFor : ℕ → List ℕ → ℕ
+leftFor left u = pick (leb (length u) left) left later
 
 -- the units in turn, as full as the lines go
 unfoldable pub foldedUnits : ℕ → List (List ℕ) → List ℕ
 foldedUnits left [] = []
-foldedUnits left (u ∷ us) = breakFor left u ++ (u ++ foldedUnits (roomFor left u - length u) us)
+foldedUnits left (u ∷ us) = breakFor left u ++ (u ++ foldedUnits (leftFor left u - length u) us)
 
 -- the octets left behind them
 unfoldable pub leftAfter : ℕ → List (List ℕ) → ℕ
 leftAfter left [] = left
-leftAfter left (u ∷ us) = leftAfter (roomFor left u - length u) us
+leftAfter left (u ∷ us) = leftAfter (leftFor left u - length u) us
 
 abbrev pub strict : List ℕ → List ℕ
 strict line = foldedUnits first (units line)
@@ -61,16 +61,16 @@ kept false ps = [] ∷ ps
 
 unfoldable pub packed : ℕ → List (List ℕ) → List (List ℕ)
 packed left [] = [] ∷ []
-packed left (u ∷ us) = kept (leb (length u) left) (onto u (packed (roomFor left u - length u) us))
+packed left (u ∷ us) = kept (leb (length u) left) (onto u (packed (leftFor left u - length u) us))
 
 abbrev pub strictPieces : List ℕ → List (List ℕ)
 strictPieces line = packed first (units line)
 
 -- as full as they go: every piece but the last fills its physical line, and none but the first is empty
-unfoldable pub FilledFrom : ℕ → List ℕ → List (List ℕ) → Type 0
-FilledFrom width p [] = length p ≤ width
-FilledFrom width p (q ∷ ps) = (length p ≡ width) × ((0 < length q) × FilledFrom later q ps)
+unfoldable pub FullFrom : ℕ → List ℕ → List (List ℕ) → Type 0
+FullFrom width p [] = length p ≤ width
+FullFrom width p (q ∷ ps) = (length p ≡ width) × ((0 < length q) × FullFrom later q ps)
 
-abbrev pub Filled : ℕ → List (List ℕ) → Type 0
-Filled width [] = ⊥
-Filled width (p ∷ ps) = FilledFrom width p ps
+abbrev pub Full : ℕ → List (List ℕ) → Type 0
+Full width [] = ⊥
+Full width (p ∷ ps) = FullFrom width p ps

@@ -35,7 +35,7 @@ use Rattle.nesting.specs.declared.Check.{Check}
 use Rattle.nesting.specs.declared.Counts.{Counts}
 use Rattle.nesting.specs.declared.Entry.{Entry}
 use Rattle.nesting.specs.Rows.{entry, top, componentRow, propertyRow, parameterWith, parameterRow}
-use Rattle.nesting.specs.Steps.{State, inside, closed, checkOf, after, finished, runOf, countsOf}
+use Rattle.nesting.specs.Steps.{State, ifOpen, closed, checkOf, after, finished, runOf, countsOf}
 use Rattle.nesting.proofs.Lines.{deep, at-the-end}
 use Rattle.reading.specs.declared.Reading.{Reading}
 use Rattle.reading.specs.Answers.{refusal}
@@ -43,7 +43,7 @@ use Rattle.tables.specs.Lent.{Lent}
 use Rattle.reading.specs.Lent.{roomIn, readInto, left}
 use Rattle.listing.proofs.Rooms.{done-within}
 use Rattle.listing.specs.Texts.{field, digit, digits, decimal, parentField}
-use Rattle.listing.specs.Lines.{componentLine, propertyLine, parameterLine, linesFrom, heading, sectionText, refused}
+use Rattle.listing.specs.Lines.{listedComponent, listedProperty, listedParameter, listedRows, heading, sectionText, refused}
 use Rattle.listing.specs.Listing.{longestListed, listingRoom, listed, listing, rooms, listingOf}
 use Rattle.listing.specs.declared.Section.{Section}
 use Rattle.listing.specs.declared.Section.the-variants.{Components, Properties, Parameters}
@@ -97,7 +97,7 @@ view-within text start len = go (leb (start + len) (length text))
 -- ---- rows
 
 module _ (text : List ℕ) where
-  component-few : (c : ComponentRow) → length (parentField (c .parent)) ≤ 6 → c .depth < 100 → length (componentLine text c) ≤ 10 + c .«name_len»
+  component-few : (c : ComponentRow) → length (parentField (c .parent)) ≤ 6 → c .depth < 100 → length (listedComponent text c) ≤ 10 + c .«name_len»
   component-few c p d =
       let name = viewed text (c .«name_start») (c .«name_len») in
       omega (
@@ -110,7 +110,7 @@ module _ (text : List ℕ) where
         view-within text (c .«name_start») (c .«name_len»),
       )
 
-  property-few : (p : PropertyRow) → length (decimal (p .owner)) ≤ 5 → length (propertyLine text p) ≤ 8 + p .«key_len» + p .«value_len»
+  property-few : (p : PropertyRow) → length (decimal (p .owner)) ≤ 5 → length (listedProperty text p) ≤ 8 + p .«key_len» + p .«value_len»
   property-few p d =
       let key = viewed text (p .«key_start») (p .«key_len») in
       let value = viewed text (p .«value_start») (p .«value_len») in
@@ -125,13 +125,13 @@ module _ (text : List ℕ) where
         view-within text (p .«value_start») (p .«value_len»),
       )
 
-  parameter-few : (m : ℕ) (p : Param) → length (decimal m) ≤ 5 → length (parameterLine text (parameterRow m p)) ≤ 8 + (p .key .len + valueLen (p .value))
+  parameter-few : (m : ℕ) (p : Param) → length (decimal m) ≤ 5 → length (listedParameter text (parameterRow m p)) ≤ 8 + (p .key .len + valueLen (p .value))
   parameter-few m p d = go (p .value)
     where
       key : List ℕ
       key = viewed text (p .key .start) (p .key .len)
 
-      go : (v : Value) → length (parameterLine text (parameterWith m (p .key) v)) ≤ 8 + (p .key .len + valueLen v)
+      go : (v : Value) → length (listedParameter text (parameterWith m (p .key) v)) ≤ 8 + (p .key .len + valueLen v)
       go Absent =
           omega (
             arith,
@@ -154,13 +154,13 @@ module _ (text : List ℕ) where
           )
 
   parameters-few : (m : ℕ) (ps : List Param) → length (decimal m) ≤ 5
-      → length (flat (parameterLine text) (map (parameterRow m) ps)) ≤ 8 * length ps + paramsLen ps
+      → length (flat (listedParameter text) (map (parameterRow m) ps)) ≤ 8 * length ps + paramsLen ps
   unfolding flat paramsLen
   parameters-few m [] d = omega arith
   parameters-few m (p ∷ ps) d =
       omega (
         arith,
-        length-append (parameterLine text (parameterRow m p)) (flat (parameterLine text) (map (parameterRow m) ps)),
+        length-append (listedParameter text (parameterRow m p)) (flat (listedParameter text) (map (parameterRow m) ps)),
         parameter-few m p d,
         parameters-few m ps d,
       )
@@ -186,7 +186,7 @@ record Sized (text : List ℕ) (at : ℕ) (s : State) : Type 0 where
   opens : UpTo at (s .opens)
   components : length (s .components) ≤ at
   properties : length (s .properties) ≤ at
-  size : length (flat (componentLine text) (s .components)) + (length (flat (propertyLine text) (s .properties)) + length (flat (parameterLine text) (s .parameters)))
+  size : length (flat (listedComponent text) (s .components)) + (length (flat (listedProperty text) (s .properties)) + length (flat (listedParameter text) (s .parameters)))
       ≤ at + (10 * length (s .components) + 8 * (length (s .properties) + length (s .parameters)))
 
 module _ (text : List ℕ) where
@@ -225,25 +225,25 @@ module _ (text : List ℕ) where
                 n,
                 w .size,
                 o .1,
-                added text (componentLine text) (s .components) c,
+                added text (listedComponent text) (s .components) c,
                 component-few text c (parent (s .opens) (w .opens)) (omega arith),
               );
         }
 
-    owner : (es : List Entry) → UpTo at es → inside Check.Fine es ≡ Check.Fine → length (decimal (top es)) ≤ 5
+    owner : (es : List Entry) → UpTo at es → ifOpen Check.Fine es ≡ Check.Fine → length (decimal (top es)) ≤ 5
     unfolding UpTo
     owner [] u h = absurd (let z : _≡_ {A = ℕ} 0 1 = cc in omega arith)
     owner (e ∷ es) (a, u) h = number-few (e .row) (omega arith)
 
-    content : (p : Property) → SoundProperty line p → inside Check.Fine (s .opens) ≡ Check.Fine → Sized text (at + length line) (after at line (Content p) s)
+    content : (p : Property) → SoundProperty line p → ifOpen Check.Fine (s .opens) ≡ Check.Fine → Sized text (at + length line) (after at line (Content p) s)
     content p o h =
         let r = propertyRow (top (s .opens)) at p in
         let ps = paramsAfter (at + p .key .len) 0 (drop (p .key .len) line) in
         let qs = map (parameterRow (length (s .properties))) ps in
         let n : length (s .properties ++ r ∷ []) ≡ length (s .properties) + 1 = length-append (s .properties) (r ∷ []) in
         let m : length (s .parameters ++ qs) ≡ length (s .parameters) + length ps = length-append (s .parameters) qs ∙ rw length-map in
-        let f : length (flat (parameterLine text) (s .parameters ++ qs)) ≡ length (flat (parameterLine text) (s .parameters)) + length (flat (parameterLine text) qs) =
-        rw (flat-append (parameterLine text) (s .parameters) qs) (length-append (flat (parameterLine text) (s .parameters)) (flat (parameterLine text) qs)) in
+        let f : length (flat (listedParameter text) (s .parameters ++ qs)) ≡ length (flat (listedParameter text) (s .parameters)) + length (flat (listedParameter text) qs) =
+        rw (flat-append (listedParameter text) (s .parameters) qs) (length-append (flat (listedParameter text) (s .parameters)) (flat (listedParameter text) qs)) in
         record {
           opens = up-to at (at + length line) (s .opens) (omega arith) (w .opens);
           components = omega (arith, w .components);
@@ -257,7 +257,7 @@ module _ (text : List ℕ) where
                 w .size,
                 o .behind,
                 o .value,
-                added text (propertyLine text) (s .properties) r,
+                added text (listedProperty text) (s .properties) r,
                 property-few text r (owner (s .opens) (w .opens) h),
                 parameters-few text (length (s .properties)) ps (number-few (length (s .properties)) (omega (arith, w .properties))),
                 params-apart (at + p .key .len) 0 (drop (p .key .len) line),
@@ -285,8 +285,8 @@ module _ (text : List ℕ) where
 -- ---- the listing
 
 lines-flat : {A : Type 0} (line : A → List ℕ) (f : ℕ → List ℕ) (rows : List A) (n : ℕ) → ((i : ℕ) (d : A) → i < length rows → f (n + i) ≡ line (getD rows i d))
-    → linesFrom f n (length rows) ≡ flat line rows
-unfolding linesFrom flat
+    → listedRows f n (length rows) ≡ flat line rows
+unfolding listedRows flat
 lines-flat line f [] n same = refl
 lines-flat line f (r ∷ rows) n same =
     let e : f n ≡ line r = rw add-zero at (same 0 r (omega arith)) in
@@ -294,7 +294,7 @@ lines-flat line f (r ∷ rows) n same =
 
 module _ {A : Type 0} {size : ℕ} {words : A → List ℕ} {from : List ℕ → ℕ → A} (shape : Shape size words from) (line : A → List ℕ) where
   lines-of : (rows : List A) (n : ℕ) (old : List ℕ) → n ≡ length rows → n ≤ length old / size
-      → linesFrom (λ (i : ℕ). line (rowAt size from (laid (flat words rows) old) i)) 0 n ≡ flat line rows
+      → listedRows (λ (i : ℕ). line (rowAt size from (laid (flat words rows) old) i)) 0 n ≡ flat line rows
   lines-of rows n old e h =
       let f : length (flat words rows) ≤ length old = rw (length-flat shape rows, ← e) (omega (arith, le-div-iff-mul-le (shape .some) .0 h, mul-comm size n)) in
       rw (e, whole (flat words rows) old f)
@@ -341,16 +341,16 @@ sections-few r s text c p q w short counts hc hp hq mc mp mq =
     let nc : r .components ≡ length (s .components) = ap (λ (k : Counts). k .components) counts in
     let np : r .properties ≡ length (s .properties) = ap (λ (k : Counts). k .properties) counts in
     let nq : r .parameters ≡ length (s .parameters) = ap (λ (k : Counts). k .parameters) counts in
-    let lc = flat (componentLine text) (s .components) in
-    let lp = flat (propertyLine text) (s .properties) in
-    let lq = flat (parameterLine text) (s .parameters) in
+    let lc = flat (listedComponent text) (s .components) in
+    let lp = flat (listedProperty text) (s .properties) in
+    let lq = flat (listedParameter text) (s .parameters) in
     let tc = heading Components ++ (field (decimal (r .components)) lf ++ lc) in
     let tp = heading Properties ++ (field (decimal (r .properties)) lf ++ lp) in
     let tq = heading Parameters ++ (field (decimal (r .parameters)) lf ++ lq) in
     rw (
-      lines-of component-shape (componentLine text) (s .components) (r .components) c nc hc,
-      lines-of property-shape (propertyLine text) (s .properties) (r .properties) p np hp,
-      lines-of parameter-shape (parameterLine text) (s .parameters) (r .parameters) q nq hq,
+      lines-of component-shape (listedComponent text) (s .components) (r .components) c nc hc,
+      lines-of property-shape (listedProperty text) (s .properties) (r .properties) p np hp,
+      lines-of parameter-shape (listedParameter text) (s .parameters) (r .parameters) q nq hq,
     )
     (omega (
       arith,

@@ -16,7 +16,7 @@ use Rattle.tables.specs.Lent.{Lent}
 use Rattle.reading.specs.Lent.{readInto, left}
 use Rattle.reading.specs.declared.Reading.{Reading}
 use Rattle.listing.specs.Texts.{field, digit, digits, decimal, parentField}
-use Rattle.listing.specs.Lines.{parameterLine, linesFrom, sectionText, refused}
+use Rattle.listing.specs.Lines.{listedParameter, listedRows, sectionText, refused}
 use Rattle.listing.specs.Listing.{longestListed, listed, listing, leftListed}
 use Rattle.listing.specs.declared.Section.the-variants.{Components, Properties, Parameters}
 
@@ -45,22 +45,22 @@ a-parent parent f = rw (ne-eqb parent noParent f)
 -- ---- lines
 
 module _ (text : List ℕ) (p : ParameterRow) where
-  pub absent : p .present ≡ 0 → parameterLine text p ≡ field (decimal (p .property)) space ++ field (viewed text (p .«key_start») (p .«key_len»)) lf
+  pub absent : p .present ≡ 0 → listedParameter text p ≡ field (decimal (p .property)) space ++ field (viewed text (p .«key_start») (p .«key_len»)) lf
   absent e = rw (eq-eqb (p .present) 0 e)
 
   pub present : (p .present ≡ 0 → ⊥)
-      → parameterLine text p ≡ field (decimal (p .property)) space ++ (field (viewed text (p .«key_start») (p .«key_len»)) equals ++ field (viewed text (p .«value_start») (p .«value_len»)) lf)
+      → listedParameter text p ≡ field (decimal (p .property)) space ++ (field (viewed text (p .«key_start») (p .«key_len»)) equals ++ field (viewed text (p .«value_start») (p .«value_len»)) lf)
   present f = rw (ne-eqb (p .present) 0 f)
 
 module _ (line : ℕ → List ℕ) (row count : ℕ) where
-  pub next-line : row < count → linesFrom line row (count - row) ≡ line row ++ linesFrom line (row + 1) (count - (row + 1))
-  unfolding linesFrom
+  pub next-line : row < count → listedRows line row (count - row) ≡ line row ++ listedRows line (row + 1) (count - (row + 1))
+  unfolding listedRows
   next-line h =
       let e : count - row ≡ suc (count - (row + 1)) = omega arith in
       rw e
 
-  pub no-lines : count ≤ row → linesFrom line row (count - row) ≡ []
-  unfolding linesFrom
+  pub no-lines : count ≤ row → listedRows line row (count - row) ≡ []
+  unfolding listedRows
   no-lines h =
       let e : count - row ≡ 0 = omega arith in
       rw e

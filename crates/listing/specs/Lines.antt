@@ -16,17 +16,17 @@ use Rattle.listing.specs.Texts.{field, decimal, parentField}
 use Rattle.listing.specs.declared.Section.{Section}
 use Rattle.listing.specs.declared.Section.the-variants.{Components, Properties, Parameters}
 
-abbrev pub componentLine : List ℕ → ComponentRow → List ℕ
-componentLine text c =
+abbrev pub listedComponent : List ℕ → ComponentRow → List ℕ
+listedComponent text c =
     parentField (c .parent) ++ (field (decimal (c .depth)) space ++ field (viewed text (c .«name_start») (c .«name_len»)) lf)
 
-abbrev pub propertyLine : List ℕ → PropertyRow → List ℕ
-propertyLine text p =
+abbrev pub listedProperty : List ℕ → PropertyRow → List ℕ
+listedProperty text p =
     field (decimal (p .owner)) space
     ++ (field (viewed text (p .«key_start») (p .«key_len»)) space ++ field (viewed text (p .«value_start») (p .«value_len»)) lf)
 
-abbrev pub parameterLine : List ℕ → ParameterRow → List ℕ
-parameterLine text p =
+abbrev pub listedParameter : List ℕ → ParameterRow → List ℕ
+listedParameter text p =
     field (decimal (p .property)) space
     ++ pick (eqb (p .present) 0)
     (field (viewed text (p .«key_start») (p .«key_len»)) lf)
@@ -38,15 +38,15 @@ rowSize Properties = propertySize
 rowSize Parameters = parameterSize
 
 -- the line of row n of a table
-abbrev pub rowLine : Section → List ℕ → List ℕ → ℕ → List ℕ
-rowLine Components text table n = componentLine text (componentAt table n)
-rowLine Properties text table n = propertyLine text (propertyAt table n)
-rowLine Parameters text table n = parameterLine text (parameterAt table n)
+abbrev pub listedRow : Section → List ℕ → List ℕ → ℕ → List ℕ
+listedRow Components text table n = listedComponent text (componentAt table n)
+listedRow Properties text table n = listedProperty text (propertyAt table n)
+listedRow Parameters text table n = listedParameter text (parameterAt table n)
 
 -- the lines of so many rows, from row n on
-unfoldable pub linesFrom : (ℕ → List ℕ) → ℕ → ℕ → List ℕ
-linesFrom line n zero = []
-linesFrom line n (suc count) = line n ++ linesFrom line (n + 1) count
+unfoldable pub listedRows : (ℕ → List ℕ) → ℕ → ℕ → List ℕ
+listedRows line n zero = []
+listedRows line n (suc count) = line n ++ listedRows line (n + 1) count
 
 -- `components `, `properties `, `parameters `
 abbrev pub heading : Section → List ℕ
@@ -56,7 +56,7 @@ heading Parameters = field (112 ∷ 97 ∷ 114 ∷ 97 ∷ 109 ∷ 101 ∷ 116 �
 
 -- a section: its count, then its rows
 abbrev pub sectionText : Section → List ℕ → List ℕ → ℕ → List ℕ
-sectionText which text table count = heading which ++ (field (decimal count) lf ++ linesFrom (rowLine which text table) 0 count)
+sectionText which text table count = heading which ++ (field (decimal count) lf ++ listedRows (listedRow which text table) 0 count)
 
 -- "A refusal prints one line, `refused` and the six numbers, spaced alike"
 abbrev pub refused : Reading → List ℕ

@@ -4,7 +4,7 @@ ghost use Prim.Native.Nat.{_+_, _≤_, _<_, _/_};
 ghost use lib.ListN.{length};
 ghost use Rattle.octets.specs.Laid.{Lays};
 ghost use Rattle.listing.specs.Texts.{field, digit, digits, decimal, parentField};
-ghost use Rattle.listing.specs.Lines.{componentLine, propertyLine, parameterLine, rowSize, rowLine, linesFrom, heading, sectionText, refused};
+ghost use Rattle.listing.specs.Lines.{listedComponent, listedProperty, listedParameter, rowSize, listedRow, listedRows, heading, sectionText, refused};
 ghost use Rattle.listing.specs.Listing.{HasRows, listed, listing, leftListed, listingOf};
 ghost use Rattle.tables.specs.Lent.{lent};
 use reading::Reading;
@@ -80,7 +80,7 @@ fn lay_parent(parent: u32, out: &mut [u8], at: usize) -> usize
 }
 
 fn lay_component(text: &[u8], row: ComponentRow, out: &mut [u8], at: usize) -> usize
-    ensures { λ r. ⌜ Lays at (componentLine (now (text .entry)) row) (now (out .entry)) (now (out .exit)) r ⌝ }
+    ensures { λ r. ⌜ Lays at (listedComponent (now (text .entry)) row) (now (out .entry)) (now (out .exit)) r ⌝ }
 {
     let name = octets::view(text, row.name_start as usize, row.name_len as usize);
     let to = lay_parent(row.parent, out, at);
@@ -89,7 +89,7 @@ fn lay_component(text: &[u8], row: ComponentRow, out: &mut [u8], at: usize) -> u
 }
 
 fn lay_property(text: &[u8], row: PropertyRow, out: &mut [u8], at: usize) -> usize
-    ensures { λ r. ⌜ Lays at (propertyLine (now (text .entry)) row) (now (out .entry)) (now (out .exit)) r ⌝ }
+    ensures { λ r. ⌜ Lays at (listedProperty (now (text .entry)) row) (now (out .entry)) (now (out .exit)) r ⌝ }
 {
     let key = octets::view(text, row.key_start as usize, row.key_len as usize);
     let value = octets::view(text, row.value_start as usize, row.value_len as usize);
@@ -99,7 +99,7 @@ fn lay_property(text: &[u8], row: PropertyRow, out: &mut [u8], at: usize) -> usi
 }
 
 fn lay_parameter(text: &[u8], row: ParameterRow, out: &mut [u8], at: usize) -> usize
-    ensures { λ r. ⌜ Lays at (parameterLine (now (text .entry)) row) (now (out .entry)) (now (out .exit)) r ⌝ }
+    ensures { λ r. ⌜ Lays at (listedParameter (now (text .entry)) row) (now (out .entry)) (now (out .exit)) r ⌝ }
 {
     let key = octets::view(text, row.key_start as usize, row.key_len as usize);
     let value = octets::view(text, row.value_start as usize, row.value_len as usize);
@@ -121,7 +121,7 @@ fn lay_row(
     at: usize,
 ) -> usize
     requires { ⌜ row < length (now table) / rowSize which ⌝ }
-    ensures { λ r. ⌜ Lays at (rowLine which (now (text .entry)) (now (table .entry)) row) (now (out .entry)) (now (out .exit)) r ⌝ }
+    ensures { λ r. ⌜ Lays at (listedRow which (now (text .entry)) (now (table .entry)) row) (now (out .entry)) (now (out .exit)) r ⌝ }
 {
     match which {
         Section::Components => lay_component(text, tables::component_at(table, row), out, at),
@@ -139,7 +139,7 @@ fn lay_rows(
     at: usize,
 ) -> usize
     requires { ⌜ count ≤ length (now table) / rowSize which ⌝ }
-    ensures { λ r. ⌜ Lays at (linesFrom (rowLine which (now (text .entry)) (now (table .entry))) 0 count) (now (out .entry)) (now (out .exit)) r ⌝ }
+    ensures { λ r. ⌜ Lays at (listedRows (listedRow which (now (text .entry)) (now (table .entry))) 0 count) (now (out .entry)) (now (out .exit)) r ⌝ }
 {
     let mut to = at;
     let mut row: usize = 0;

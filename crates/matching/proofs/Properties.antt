@@ -13,7 +13,7 @@ use Rattle.tables.specs.Trees.{Property, propertiesOf, propertyOf}
 use Rattle.tables.specs.Fronts.{front, ownProperty}
 use Rattle.tables.proofs.Laws.{length-rows, row-here}
 use Rattle.walking.specs.Walk.{ownedByOther, heldBefore}
-use Rattle.walking.specs.Places.{Rising, Owns}
+use Rattle.walking.specs.Places.{RisingParameters, Owns}
 use Rattle.walking.specs.declared.Window.{Window}
 use Rattle.walking.proofs.Walks.{held-rises}
 use Rattle.walking.proofs.Found.{in-window}
@@ -49,7 +49,7 @@ module _ (text table words : List ℕ) (row last : ℕ) where
 
       module _ {p′ : ℕ} (e : p′ ≡ p + front (heldBefore i) (drop p (parametersIn words))) where
         -- the property of the row is the first of those that are left
-        pub own-first : Rising (parametersIn words) → rest i ≡ ownProperty text (propertyAt table i) i p′ (parametersIn words) ∷ rest (i + 1)
+        pub own-first : RisingParameters (parametersIn words) → rest i ≡ ownProperty text (propertyAt table i) i p′ (parametersIn words) ∷ rest (i + 1)
         own-first r = rw (own-property (parametersIn words) i (s .held) e text r (propertyAt table i)) here
 
         pub steps : {i′ : ℕ} → i′ ≡ next (i + 1) → Standing i′ p′
@@ -107,7 +107,7 @@ module _ (text table words : List ℕ) (row last row′ last′ : ℕ) where
           go true e = both-end sameProperty _ _ none (no-more text (propertiesIn table) (parametersIn words) row′ last′ j (leb-true last′ j e))
           go false e = one-ends sameProperty _ _ _ _ none (here text table words row′ last′ fits′ (c .other) (leb-false last′ j e))
 
-      module _ (r : Rising (parametersIn words)) (h : i < last) (k : j < last′) {p′ q′ : ℕ}
+      module _ (r : RisingParameters (parametersIn words)) (h : i < last) (k : j < last′) {p′ q′ : ℕ}
           (e : p′ ≡ p + front (heldBefore i) (drop p (parametersIn words))) (f : q′ ≡ q + front (heldBefore j) (drop q (parametersIn words)))
         where
           abbrev pub firsts : Bool

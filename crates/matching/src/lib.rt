@@ -8,7 +8,7 @@ ghost use Rattle.tables.specs.Rows.{propertySize, propertyAt};
 ghost use Rattle.tables.specs.Lent.{propertiesIn, parametersIn};
 ghost use Rattle.tables.specs.Trees.{parameterOf, propertiesOf};
 ghost use Rattle.tables.specs.Fronts.{ownParameters, ownProperty};
-ghost use Rattle.walking.specs.Places.{Rising, Owns};
+ghost use Rattle.walking.specs.Places.{RisingParameters, Owns};
 ghost use Rattle.matching.specs.Alike.{sameName, sameKey, sameValue, sameParameter, sameParameters, sameProperty, sameProperties};
 use octets::Span;
 use tables::ComponentRow;
@@ -149,7 +149,7 @@ pub fn same_properties(
     a: Side,
     b: Side,
 ) -> bool
-    requires { ⌜ Rising (parametersIn (now parameters))
+    requires { ⌜ RisingParameters (parametersIn (now parameters))
         × Owns (propertiesIn (now properties)) (parametersIn (now parameters)) (a .row) (a .window)
         × Owns (propertiesIn (now properties)) (parametersIn (now parameters)) (b .row) (b .window) ⌝ }
     ensures { λ r. ⌜ r ≡ sameProperties

@@ -9,7 +9,7 @@ ghost use Rattle.tables.specs.Rows.{componentSize};
 ghost use Rattle.tables.specs.Trees.{none};
 ghost use Rattle.tables.specs.Lent.{lent, componentsIn, propertiesIn, parametersIn};
 ghost use Rattle.walking.specs.Walk.{endOf, inOrder, Reached};
-ghost use Rattle.walking.specs.Places.{Ruled, Placed, Ordered};
+ghost use Rattle.walking.specs.Places.{Ruled, Arrived, Ordered};
 ghost use Rattle.twins.specs.Answers.{twinRows};
 ghost use Rattle.neighbours.specs.Counts.{repeats, childrenIn, firstChild, neighbours, neighboursAnswer};
 use tables::Found;
@@ -99,8 +99,8 @@ fn compare(
     order: Order,
 ) -> Pair
     requires { ⌜ Ruled (lent (now text) (now components) (now properties) (now parameters)) ⌝ }
-    requires { ⌜ Placed (lent (now text) (now components) (now properties) (now parameters)) (before .row) (order .ordered) (before .cursor) ⌝ }
-    requires { ⌜ Placed (lent (now text) (now components) (now properties) (now parameters)) (next .row) (order .ordered) (next .cursor) ⌝ }
+    requires { ⌜ Arrived (lent (now text) (now components) (now properties) (now parameters)) (before .row) (order .ordered) (before .cursor) ⌝ }
+    requires { ⌜ Arrived (lent (now text) (now components) (now properties) (now parameters)) (next .row) (order .ordered) (next .cursor) ⌝ }
     ensures { λ r. ⌜ (r .twins
         ≡ pick (twinRows (lent (now (text .entry)) (now (components .entry)) (now (properties .entry)) (now (parameters .entry))) (before .row) (next .row)) 1 0)
         × Ordered (lent (now (text .entry)) (now (components .entry)) (now (properties .entry)) (now (parameters .entry))) (r .order .ordered) ⌝ }

@@ -11,7 +11,7 @@ use Rattle.octets.specs.Answers.{deepest}
 use Rattle.nesting.specs.declared.Check.{Check}
 use Rattle.nesting.specs.declared.Entry.{Entry}
 use Rattle.nesting.specs.declared.Refusal.{Refusal}
-use Rattle.nesting.specs.Steps.{names, closes, inside}
+use Rattle.nesting.specs.Steps.{names, closes, ifOpen}
 use Rattle.nesting.specs.Held.{topOf, Innermost}
 
 module _ {d : ℕ} {e : Entry} {opens : List Entry} (at : Innermost d e opens) where
@@ -21,17 +21,17 @@ module _ {d : ℕ} {e : Entry} {opens : List Entry} (at : Innermost d e opens) w
   pub too-deep : deepest ≤ d → pick (ltb (length opens) deepest) Check.Fine (Check.Bad Refusal.TooDeep) ≡ Check.Bad Refusal.TooDeep
   too-deep h = rw (le-ltb (length opens) deepest (omega (arith, at .depth)))
 
-  pub outside : (c : Check) → d ≡ 0 → inside c opens ≡ Check.Bad Refusal.Outside
+  pub outside : (c : Check) → d ≡ 0 → ifOpen c opens ≡ Check.Bad Refusal.Outside
   outside c z = go opens (sym (at .depth) ∙ z)
     where
-      go : (os : List Entry) → length os ≡ 0 → inside c os ≡ Check.Bad Refusal.Outside
+      go : (os : List Entry) → length os ≡ 0 → ifOpen c os ≡ Check.Bad Refusal.Outside
       go [] h = refl
       go (o ∷ os) h = absurd (omega arith)
 
-  pub within : (c : Check) → (d ≡ 0 → ⊥) → inside c opens ≡ c
+  pub within : (c : Check) → (d ≡ 0 → ⊥) → ifOpen c opens ≡ c
   within c z = go opens (λ q. z (at .depth ∙ q))
     where
-      go : (os : List Entry) → (length os ≡ 0 → ⊥) → inside c os ≡ c
+      go : (os : List Entry) → (length os ≡ 0 → ⊥) → ifOpen c os ≡ c
       go [] h = absurd (h refl)
       go (o ∷ os) h = refl
 

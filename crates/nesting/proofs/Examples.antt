@@ -8,7 +8,7 @@ use Rattle.parameters.specs.Parameter.{frontOf}
 use Rattle.parameters.specs.Parameters.{paramsAfter, paramsUsed}
 use Rattle.lines.specs.Split.{linesAfter}
 use Rattle.lines.specs.Rule.{lineOf}
-use Rattle.nesting.specs.Steps.{run, outcomeOf}
+use Rattle.nesting.specs.Steps.{readLines, outcomeOf}
 use Rattle.nesting.specs.declared.Refusal.{Refusal}
 use Rattle.nesting.specs.declared.Outcome.{Outcome}
 use Rattle.nesting.specs.declared.Outcome.the-variants.{Read, Refused}
@@ -32,5 +32,5 @@ ends : map outcomeOf texts
     ∷ Refused Refusal.BadEnd 9
     ∷ Refused Refusal.BadEnd 8
     ∷ []
-unfolding runs.run sameBytes startsWord frontOf paramsAfter paramsUsed linesAfter lineOf run outcomeOf
+unfolding runs.run sameBytes startsWord frontOf paramsAfter paramsUsed linesAfter lineOf readLines outcomeOf
 ends = refl

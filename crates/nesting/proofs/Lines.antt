@@ -15,7 +15,7 @@ use Rattle.lines.specs.Sound.{Sound}
 use Rattle.lines.specs.declared.Line.{Line}
 use Rattle.lines.proofs.Split.{line-within, content-within}
 use Rattle.lines.proofs.Sound.{sound}
-use Rattle.nesting.specs.Steps.{State, nothing, checkOf, after, Run, finished, onward, run, runOf}
+use Rattle.nesting.specs.Steps.{State, nothing, checkOf, after, Run, finished, onward, readLines, runOf}
 use Rattle.nesting.specs.declared.Check.{Check}
 use Rattle.nesting.specs.declared.Entry.{Entry}
 use Rattle.nesting.specs.declared.Refusal.{Refusal}
@@ -38,12 +38,12 @@ module _ (text : List ℕ) (Holds : ℕ → State → Type 0) (further : (at at�
     (step : (at : ℕ) (s : State) → Holds at s → (line : List ℕ) → at + length line ≤ length text → (l : Line) → Sound line l
     → checkOf text line l (s .opens) ≡ Check.Fine → Holds (at + length line) (after at line l s)) where
   along : (at k : ℕ) (xs : List ℕ) → at + length xs ≡ length text → k ≤ length xs → (s end : State) → Holds (at + k) s
-      → run text (linesAfter at k xs) s ≡ finished end → Holds (length text) end
-  unfolding run linesAfter
+      → readLines text (linesAfter at k xs) s ≡ finished end → Holds (length text) end
+  unfolding readLines linesAfter
   along at k [] h l s end w e = let q : s ≡ end = cc in rw (← q) (further (at + k) (length text) s (omega arith) w)
   along at zero (x ∷ xs) h l s end w e =
       let line : List ℕ = take (contentLen (x ∷ xs)) (x ∷ xs) in
-      let g = goes-on (checkOf text line (lineOf line) (s .opens)) at (run text (linesAfter (at + 1) (lineLen (x ∷ xs) - 1) xs) (after at line (lineOf line) s)) end e in
+      let g = goes-on (checkOf text line (lineOf line) (s .opens)) at (readLines text (linesAfter (at + 1) (lineLen (x ∷ xs) - 1) xs) (after at line (lineOf line) s)) end e in
       let n : length line ≤ lineLen (x ∷ xs) = omega (arith, length-take (contentLen (x ∷ xs)) (x ∷ xs), content-within (x ∷ xs)) in
       let m : lineLen (x ∷ xs) ≤ length (x ∷ xs) = line-within (x ∷ xs) in
       let next = step at s (further (at + 0) at s (omega arith) w) line (omega arith) (lineOf line) (sound line) (g .0) in

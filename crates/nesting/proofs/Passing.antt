@@ -31,7 +31,7 @@ use Rattle.nesting.specs.declared.Open.{Open}
 use Rattle.nesting.specs.declared.Outcome.{Outcome}
 use Rattle.nesting.specs.declared.Refusal.{Refusal}
 use Rattle.nesting.specs.Rows.{noEntry, entry, top, componentRow, propertyRow, parameterRow, parameterRows}
-use Rattle.nesting.specs.Steps.{State, nothing, finished, stopped, closes, checkOf, closed, after, onward, run, runOf, endedAt, outcomeOf, countsOf, componentCounted, propertyCounted}
+use Rattle.nesting.specs.Steps.{State, nothing, finished, stopped, closes, checkOf, closed, after, onward, readLines, runOf, endedAt, outcomeOf, countsOf, componentCounted, propertyCounted}
 use Rattle.nesting.specs.Held.{zeroEntry, stack, opened, topOf, Innermost, putRows, Tabled}
 use Rattle.nesting.proofs.Stacks.{length-stack, topmost}
 use Rattle.nesting.proofs.Tables.{put-one, put-more, length-rows-put}
@@ -45,7 +45,7 @@ pub record Reached (text c₀ p₀ q₀ : List ℕ) (s : State) (c p q : List �
   pub few : n .components + (n .properties + n .parameters) ≤ at
   pub inside : at ≤ length text
   pub tabled : Tabled s c₀ p₀ q₀ c p q
-  pub leads : run text (linesFrom at text) s ≡ runOf text
+  pub leads : readLines text (linesFrom at text) s ≡ runOf text
 
 pub start : (text c p q : List ℕ) (o : Open) → opened o ≡ [] → length (o .entries) ≡ deepest → Reached text c p q nothing c p q o (countsOf nothing) 0
 unfolding putRows
@@ -88,11 +88,11 @@ extent-inside at text e is h =
 
 -- one line
 pub turn : (text : List ℕ) (at : ℕ) (s : State) → at < length text
-    → run text (linesFrom at text) s
+    → readLines text (linesFrom at text) s
     ≡ onward (checkOf text (contentAt text at) (lineOf (contentAt text at)) (s .opens)) at
-    (run text (linesFrom (at + lineLen (drop at text)) text) (after at (contentAt text at) (lineOf (contentAt text at)) s))
-unfolding run
-turn text at s h = ap (λ (ls : List Placed). run text ls s) (split.turn text at h)
+    (readLines text (linesFrom (at + lineLen (drop at text)) text) (after at (contentAt text at) (lineOf (contentAt text at)) s))
+unfolding readLines
+turn text at s h = ap (λ (ls : List Placed). readLines text ls s) (split.turn text at h)
 
 content-length : (text : List ℕ) (at : ℕ) → at + length (contentAt text at) ≤ at + lineLen (drop at text)
 content-length text at = omega (arith, length-take (contentLen (drop at text)) (drop at text), split.content-within (drop at text))
@@ -174,8 +174,8 @@ module _ {text c₀ p₀ q₀ : List ℕ} {s : State} {c p q : List ℕ} {o : Op
 
   -- the end of the text
   pub finish : length text ≤ at → runOf text ≡ finished s
-  unfolding run
-  finish h = sym (so .leads) ∙ ap (λ (ls : List Placed). run text ls s) (split.ended text at h)
+  unfolding readLines
+  finish h = sym (so .leads) ∙ ap (λ (ls : List Placed). readLines text ls s) (split.ended text at h)
 
   module _ (e : runOf text ≡ finished s) where
     pub ended-outcome : endedAt (o .depth) n (length text) ≡ outcomeOf text
@@ -195,7 +195,7 @@ module _ {text c₀ p₀ q₀ : List ℕ} {s : State} {c p q : List ℕ} {o : Op
         sym (so .leads) ∙ turn text at s h ∙ rw (sym is, f)
 
     pub goes-on : checkOf text (contentAt text at) line (s .opens) ≡ Check.Fine
-        → run text (linesFrom next text) (after at (contentAt text at) line s) ≡ runOf text
+        → readLines text (linesFrom next text) (after at (contentAt text at) line s) ≡ runOf text
     goes-on f = sym (sym (so .leads) ∙ turn text at s h ∙ rw (sym is, f))
 
     sounds : Sound (contentAt text at) line

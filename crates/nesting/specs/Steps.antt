@@ -47,17 +47,17 @@ closes text rest [] = Check.Bad Refusal.BadEnd
 closes text rest (e ∷ es) = pick (names text rest e) Check.Fine (Check.Bad Refusal.BadEnd)
 
 -- any other line stands outside where nothing is open
-abbrev pub inside : Check → List Entry → Check
-inside check [] = Check.Bad Refusal.Outside
-inside check (e ∷ es) = check
+abbrev pub ifOpen : Check → List Entry → Check
+ifOpen check [] = Check.Bad Refusal.Outside
+ifOpen check (e ∷ es) = check
 
 abbrev pub checkOf : List ℕ → List ℕ → Line → List Entry → Check
 checkOf text line Empty opens = Check.Fine
 checkOf text line (Begin name) opens = pick (ltb (length opens) deepest) Check.Fine (Check.Bad Refusal.TooDeep)
 checkOf text line BadBegin opens = Check.Bad Refusal.BadBegin
 checkOf text line (End rest) opens = closes text (viewed line (rest .start) (rest .len)) opens
-checkOf text line (Content p) opens = inside Check.Fine opens
-checkOf text line (Bad fault) opens = inside (Check.Bad (Refusal.Line fault)) opens
+checkOf text line (Content p) opens = ifOpen Check.Fine opens
+checkOf text line (Bad fault) opens = ifOpen (Check.Bad (Refusal.Line fault)) opens
 
 abbrev pub closed : List Entry → List Entry
 closed [] = []
@@ -94,14 +94,14 @@ abbrev pub onward : Check → ℕ → Run → Run
 onward Check.Fine start rest = rest
 onward (Check.Bad r) start rest = stopped r start
 
-unfoldable pub run : List ℕ → List Placed → State → Run
-run text [] s = finished s
-run text (l ∷ ls) s =
+unfoldable pub readLines : List ℕ → List Placed → State → Run
+readLines text [] s = finished s
+readLines text (l ∷ ls) s =
     onward (checkOf text (l .content) (lineOf (l .content)) (s .opens)) (l .start)
-    (run text ls (after (l .start) (l .content) (lineOf (l .content)) s))
+    (readLines text ls (after (l .start) (l .content) (lineOf (l .content)) s))
 
 abbrev pub runOf : List ℕ → Run
-runOf text = run text (linesFrom 0 text) nothing
+runOf text = readLines text (linesFrom 0 text) nothing
 
 abbrev pub countsOf : State → Counts
 countsOf s =

@@ -87,12 +87,12 @@ unfoldable pub textAfter : List ℕ → List ℕ → List ℕ
 textAfter feed text = pick (leb (length feed) longest) (laidWhole (unfolded feed) text) text
 
 -- the rows that a text stands for
-abbrev pub rowsOf : Run → State
-rowsOf (finished s) = s
-rowsOf (stopped r place) = nothing
+abbrev pub stateOf : Run → State
+stateOf (finished s) = s
+stateOf (stopped r place) = nothing
 
 abbrev pub rowsRead : List ℕ → State
-rowsRead feed = rowsOf (runOf (unfolded feed))
+rowsRead feed = stateOf (runOf (unfolded feed))
 
 -- a table: on Done "the first rows only", else no word changed
 abbrev pub tableAfter : {A : Type 0} → (A → List ℕ) → List A → Reading → List ℕ → List ℕ
@@ -100,6 +100,6 @@ tableAfter words rows reading table = pick (eqb (reading .answer) done) (laid (f
 
 -- the three tables, at entry and at exit, behind a text that is read
 pub record Filled (text : List ℕ) (r : Reading) (c p q c′ p′ q′ : List ℕ) : Type 0 where
-  pub components : c′ ≡ tableAfter componentWords (rowsOf (runOf text) .components) r c
-  pub properties : p′ ≡ tableAfter propertyWords (rowsOf (runOf text) .properties) r p
-  pub parameters : q′ ≡ tableAfter parameterWords (rowsOf (runOf text) .parameters) r q
+  pub components : c′ ≡ tableAfter componentWords (stateOf (runOf text) .components) r c
+  pub properties : p′ ≡ tableAfter propertyWords (stateOf (runOf text) .properties) r p
+  pub parameters : q′ ≡ tableAfter parameterWords (stateOf (runOf text) .parameters) r q

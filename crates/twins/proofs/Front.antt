@@ -16,7 +16,7 @@ use Rattle.tables.proofs.Laws.{length-rows, row-here}
 use Rattle.tables.proofs.Fronts.{passed}
 use Rattle.tables.proofs.Gathered.{taken}
 use Rattle.walking.specs.Walk.{ownedBefore, ownedBy, heldBefore, stands, Reached}
-use Rattle.walking.specs.Places.{Rising}
+use Rattle.walking.specs.Places.{RisingParameters}
 use Rattle.walking.specs.declared.Cursor.{Cursor}
 use Rattle.walking.proofs.Walks.{held-rises}
 use Rattle.walking.proofs.Found.{from-first}
@@ -42,7 +42,7 @@ fronts properties parameters {cursor} {row} {property} so e f =
           (omega (arith, so .parameter, held-rises parameters (cursor .property) property (omega arith)));
     }
 
-module _ (text words : List ℕ) (parameters : List ParameterRow) (rising : Rising parameters) where
+module _ (text words : List ℕ) (parameters : List ParameterRow) (rising : RisingParameters parameters) where
   -- a property with the parameters that stand there
   abbrev pub heldBy : Held → Property
   heldBy h = ownProperty text (propertyAt words (h .property)) (h .property) (h .first) parameters

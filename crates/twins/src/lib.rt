@@ -9,7 +9,7 @@ ghost use Rattle.tables.specs.Rows.{propertySize, propertyAt};
 ghost use Rattle.tables.specs.Lent.{lent, componentsIn, propertiesIn, parametersIn};
 ghost use Rattle.tables.specs.Trees.{propertiesOf};
 ghost use Rattle.walking.specs.Walk.{ownedBy, stands, inOrder, Reached, Holds};
-ghost use Rattle.walking.specs.Places.{Rising, Ruled, Placed};
+ghost use Rattle.walking.specs.Places.{RisingParameters, Ruled, Arrived};
 ghost use Rattle.matching.specs.Alike.{sameProperties};
 ghost use Rattle.twins.specs.Answers.{compared, twinRows, twinsAnswer};
 ghost use Rattle.twins.specs.Matched.{atRow, spotIn, Fronts, Headed, Matched};
@@ -94,8 +94,8 @@ fn same_head(
     ordered: bool,
 ) -> Match
     requires { ⌜ Ruled (lent (now text) (now components) (now properties) (now parameters)) ⌝ }
-    requires { ⌜ Placed (lent (now text) (now components) (now properties) (now parameters)) (first .row) ordered (first .cursor) ⌝ }
-    requires { ⌜ Placed (lent (now text) (now components) (now properties) (now parameters)) (second .row) ordered (second .cursor) ⌝ }
+    requires { ⌜ Arrived (lent (now text) (now components) (now properties) (now parameters)) (first .row) ordered (first .cursor) ⌝ }
+    requires { ⌜ Arrived (lent (now text) (now components) (now properties) (now parameters)) (second .row) ordered (second .cursor) ⌝ }
     ensures { λ r. ⌜ Headed (lent (now (text .entry)) (now (components .entry)) (now (properties .entry)) (now (parameters .entry))) (first .row) (second .row) r ⌝ }
 {
     let one = tables::component_at(components, first.row);
@@ -128,8 +128,8 @@ fn same_component(
     ordered: bool,
 ) -> Match
     requires { ⌜ Ruled (lent (now text) (now components) (now properties) (now parameters)) ⌝ }
-    requires { ⌜ Placed (lent (now text) (now components) (now properties) (now parameters)) (first .row) ordered (first .cursor) ⌝ }
-    requires { ⌜ Placed (lent (now text) (now components) (now properties) (now parameters)) (second .row) ordered (second .cursor) ⌝ }
+    requires { ⌜ Arrived (lent (now text) (now components) (now properties) (now parameters)) (first .row) ordered (first .cursor) ⌝ }
+    requires { ⌜ Arrived (lent (now text) (now components) (now properties) (now parameters)) (second .row) ordered (second .cursor) ⌝ }
     ensures { λ r. ⌜ Matched (lent (now (text .entry)) (now (components .entry)) (now (properties .entry)) (now (parameters .entry))) level (first .row) (second .row) r ⌝ }
 {
     let head = same_head(
@@ -206,7 +206,7 @@ pub fn same_front(
     first: Spot,
     second: Spot,
 ) -> bool
-    requires { ⌜ Rising (parametersIn (now parameters)) ⌝ }
+    requires { ⌜ RisingParameters (parametersIn (now parameters)) ⌝ }
     requires { ⌜ Reached (propertiesIn (now properties)) (parametersIn (now parameters)) (first .cursor) (first .row) ⌝ }
     requires { ⌜ Reached (propertiesIn (now properties)) (parametersIn (now parameters)) (second .cursor) (second .row) ⌝ }
     ensures { λ r. ⌜ (r ≡ false → sameProperties
@@ -237,8 +237,8 @@ pub fn same_trees(
     ordered: bool,
 ) -> bool
     requires { ⌜ Ruled (lent (now text) (now components) (now properties) (now parameters)) ⌝ }
-    requires { ⌜ Placed (lent (now text) (now components) (now properties) (now parameters)) (first .row) ordered (first .cursor) ⌝ }
-    requires { ⌜ Placed (lent (now text) (now components) (now properties) (now parameters)) (second .row) ordered (second .cursor) ⌝ }
+    requires { ⌜ Arrived (lent (now text) (now components) (now properties) (now parameters)) (first .row) ordered (first .cursor) ⌝ }
+    requires { ⌜ Arrived (lent (now text) (now components) (now properties) (now parameters)) (second .row) ordered (second .cursor) ⌝ }
     ensures { λ r. ⌜ r ≡ twinRows (lent (now (text .entry)) (now (components .entry)) (now (properties .entry)) (now (parameters .entry))) (first .row) (second .row) ⌝ }
 {
     if !same_front(text, properties, parameters, first, second) {

@@ -18,7 +18,7 @@ use Rattle.tables.specs.declared.ParameterRow.{ParameterRow}
 use Rattle.tables.proofs.Gathered.{over}
 use Rattle.tables.proofs.Nested.{Nested, componentOf, depthOf, rows-nested}
 use Rattle.walking.specs.Walk.{endOf, Reached}
-use Rattle.walking.specs.Places.{Ruled, Ordered, Placed}
+use Rattle.walking.specs.Places.{Ruled, Ordered, Arrived}
 use Rattle.walking.specs.declared.Cursor.{Cursor}
 use Rattle.walking.proofs.Walks.{reached-on}
 use Rattle.walking.proofs.Rows.{end-after, end-before, some-level}
@@ -57,7 +57,7 @@ module _ (b : Lent) where
         }
 
     -- a row that is not the end is there
-    pub placed : {ordered : Bool} → Ordered b ordered → Placed b row ordered cursor
+    pub placed : {ordered : Bool} → Ordered b ordered → Arrived b row ordered cursor
     placed o = record { there = omega (arith, a .siblings h .inside); order = o; reached = a .reached }
 
   -- ---- the trees ahead, their children as deep as the level allows

@@ -17,7 +17,7 @@ use Rattle.tables.specs.declared.ParameterRow.{ParameterRow}
 use Rattle.tables.proofs.Gathered.{taken, passed, over}
 use Rattle.tables.proofs.Fronts.{wider, rises, passed as skipped}
 use Rattle.walking.specs.Walk.{ownedByOther, heldBefore}
-use Rattle.walking.specs.Places.{Rising}
+use Rattle.walking.specs.Places.{RisingParameters}
 use Rattle.walking.proofs.Found.{run-is-all}
 
 -- ---- the parameters of a property
@@ -41,11 +41,11 @@ module _ (parameters : List ParameterRow) (number : ℕ) {own from : ℕ} (h : f
       its p t = lt-ltb (p .property) (number + 1) (omega (arith, eqb-true (p .property) number t))
 
   -- and they are all that it has
-  pub own-parameters : (text : List ℕ) → Rising parameters → ownParameters text number own parameters ≡ parametersOf text parameters number
+  pub own-parameters : (text : List ℕ) → RisingParameters parameters → ownParameters text number own parameters ≡ parametersOf text parameters number
   own-parameters text r = run-is-all text parameters number own from (r .textLength) (r .properties) (r .first) 0 (r .fits) h e
 
   -- so that the row with them is the property that it stands for
-  pub own-property : (text : List ℕ) → Rising parameters → (p : PropertyRow) → ownProperty text p number own parameters ≡ propertyOf text parameters number p
+  pub own-property : (text : List ℕ) → RisingParameters parameters → (p : PropertyRow) → ownProperty text p number own parameters ≡ propertyOf text parameters number p
   own-property text r p = rw (own-parameters text r)
 
 -- ---- rows of others, passed over

@@ -16,7 +16,7 @@ use Rattle.walking.specs.declared.Cursor.{Cursor}
 use Rattle.walking.specs.declared.Window.{Window}
 
 -- the parameters meet the table rule of some tables: they stand by rising property
-pub record Rising (parameters : List ParameterRow) : Type 0 where
+pub record RisingParameters (parameters : List ParameterRow) : Type 0 where
   pub textLength : ℕ
   pub properties : ℕ
   pub first : ℕ
@@ -30,14 +30,14 @@ pub record Owns (properties : List PropertyRow) (parameters : List ParameterRow)
 -- the tables meet the table rule, as far as a walk leans on it
 pub record Ruled (b : Lent) : Type 0 where
   pub components : brokenComponent (length (b .text)) 0 [] (componentsIn (b .components)) ≡ Nothing
-  pub parameters : Rising (parametersIn (b .parameters))
+  pub parameters : RisingParameters (parametersIn (b .parameters))
 
 -- `ordered` is said only of tables that are
 abbrev pub Ordered : Lent → Bool → Type 0
 Ordered b ordered = ordered ≡ true → inOrder (componentsIn (b .components)) (propertiesIn (b .properties)) ≡ true
 
 -- a component row, where a walk has come to it
-pub record Placed (b : Lent) (row : ℕ) (ordered : Bool) (cursor : Cursor) : Type 0 where
+pub record Arrived (b : Lent) (row : ℕ) (ordered : Bool) (cursor : Cursor) : Type 0 where
   pub there : row < length (componentsIn (b .components))
   pub order : Ordered b ordered
   pub reached : Reached (propertiesIn (b .properties)) (parametersIn (b .parameters)) cursor row

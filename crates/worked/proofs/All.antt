@@ -20,7 +20,7 @@ use Rattle.folding.specs.Repository.{cuts}
 use Rattle.writable.specs.WritingRule.{judgedFrom, judgedIn}
 use Rattle.printing.specs.Lines.{parametersText, propertyLines, written}
 use Rattle.writing.specs.Answers.{writeAnswer}
-use Rattle.worked.specs.Cases.{bytes, rising, turning, repeated, nested, holds, wrong}
+use Rattle.worked.specs.Cases.{bytes, rising, turning, repeated, nested, comesTrue, wrong}
 use Rattle.worked.specs.Reading as reading
 use Rattle.worked.specs.ReadingRoom as reading-room
 use Rattle.worked.specs.ReadingRefused as reading-refused
@@ -33,184 +33,184 @@ use Rattle.worked.specs.Parts as parts
 -- ---- readings that are Done (answer 0): raw words of the rows, the text in front, and what stands behind both
 
 pub components : wrong reading.components ≡ []
-unfolding bytes holds wrong rising turning unfoldedAfter sameBytes startsWord run quotedLen furtherAfter formOf paramOf frontOf paramsAfter paramsUsed
-    linesAfter lineOf flat steps.run steps.outcomeOf readingOf textAfter
+unfolding bytes comesTrue wrong rising turning unfoldedAfter sameBytes startsWord run quotedLen furtherAfter formOf paramOf frontOf paramsAfter paramsUsed
+    linesAfter lineOf flat steps.readLines steps.outcomeOf readingOf textAfter
 components = refl
 
 pub properties : wrong reading.properties ≡ []
-unfolding bytes holds wrong rising turning unfoldedAfter sameBytes startsWord run quotedLen furtherAfter formOf paramOf frontOf paramsAfter paramsUsed
-    linesAfter lineOf flat steps.run steps.outcomeOf readingOf textAfter
+unfolding bytes comesTrue wrong rising turning unfoldedAfter sameBytes startsWord run quotedLen furtherAfter formOf paramOf frontOf paramsAfter paramsUsed
+    linesAfter lineOf flat steps.readLines steps.outcomeOf readingOf textAfter
 properties = refl
 
 pub owners : wrong reading.owners ≡ []
-unfolding bytes holds wrong rising turning unfoldedAfter sameBytes startsWord run quotedLen furtherAfter formOf paramOf frontOf paramsAfter paramsUsed
-    linesAfter lineOf flat steps.run steps.outcomeOf readingOf textAfter
+unfolding bytes comesTrue wrong rising turning unfoldedAfter sameBytes startsWord run quotedLen furtherAfter formOf paramOf frontOf paramsAfter paramsUsed
+    linesAfter lineOf flat steps.readLines steps.outcomeOf readingOf textAfter
 owners = refl
 
 pub parameters : wrong reading.parameters ≡ []
-unfolding bytes holds wrong rising turning unfoldedAfter sameBytes startsWord run quotedLen furtherAfter formOf paramOf frontOf paramsAfter paramsUsed
-    linesAfter lineOf flat steps.run steps.outcomeOf readingOf textAfter
+unfolding bytes comesTrue wrong rising turning unfoldedAfter sameBytes startsWord run quotedLen furtherAfter formOf paramOf frontOf paramsAfter paramsUsed
+    linesAfter lineOf flat steps.readLines steps.outcomeOf readingOf textAfter
 parameters = refl
 
 pub keys : wrong reading.keys ≡ []
-unfolding bytes holds wrong rising turning unfoldedAfter sameBytes startsWord run quotedLen furtherAfter formOf paramOf frontOf paramsAfter paramsUsed
-    linesAfter lineOf flat steps.run steps.outcomeOf readingOf textAfter
+unfolding bytes comesTrue wrong rising turning unfoldedAfter sameBytes startsWord run quotedLen furtherAfter formOf paramOf frontOf paramsAfter paramsUsed
+    linesAfter lineOf flat steps.readLines steps.outcomeOf readingOf textAfter
 keys = refl
 
 -- ---- readings and room: too little text (2), too few rows (10), just enough, and more than is asked for
 
 pub no-text-room : wrong reading-room.noTextRoom ≡ []
-unfolding bytes holds wrong rising turning unfoldedAfter sameBytes startsWord run quotedLen furtherAfter formOf paramOf frontOf paramsAfter paramsUsed
-    linesAfter lineOf flat steps.run steps.outcomeOf readingOf textAfter
+unfolding bytes comesTrue wrong rising turning unfoldedAfter sameBytes startsWord run quotedLen furtherAfter formOf paramOf frontOf paramsAfter paramsUsed
+    linesAfter lineOf flat steps.readLines steps.outcomeOf readingOf textAfter
 no-text-room = refl
 
 pub no-room : wrong reading-room.noRoom ≡ []
-unfolding bytes holds wrong rising turning unfoldedAfter sameBytes startsWord run quotedLen furtherAfter formOf paramOf frontOf paramsAfter paramsUsed
-    linesAfter lineOf flat steps.run steps.outcomeOf readingOf textAfter
+unfolding bytes comesTrue wrong rising turning unfoldedAfter sameBytes startsWord run quotedLen furtherAfter formOf paramOf frontOf paramsAfter paramsUsed
+    linesAfter lineOf flat steps.readLines steps.outcomeOf readingOf textAfter
 no-room = refl
 
 pub just-enough : wrong reading-room.justEnough ≡ []
-unfolding bytes holds wrong rising turning unfoldedAfter sameBytes startsWord run quotedLen furtherAfter formOf paramOf frontOf paramsAfter paramsUsed
-    linesAfter lineOf flat steps.run steps.outcomeOf readingOf textAfter
+unfolding bytes comesTrue wrong rising turning unfoldedAfter sameBytes startsWord run quotedLen furtherAfter formOf paramOf frontOf paramsAfter paramsUsed
+    linesAfter lineOf flat steps.readLines steps.outcomeOf readingOf textAfter
 just-enough = refl
 
 -- ---- readings that are refused for a line (3 to 7) or at the end of the text (8, 9). The text is in front, and the tables stay
 
 pub bad-begin : wrong reading-refused.badBegin ≡ []
-unfolding bytes holds wrong rising turning unfoldedAfter sameBytes startsWord run quotedLen furtherAfter formOf paramOf frontOf paramsAfter paramsUsed
-    linesAfter lineOf flat steps.run steps.outcomeOf readingOf textAfter
+unfolding bytes comesTrue wrong rising turning unfoldedAfter sameBytes startsWord run quotedLen furtherAfter formOf paramOf frontOf paramsAfter paramsUsed
+    linesAfter lineOf flat steps.readLines steps.outcomeOf readingOf textAfter
 bad-begin = refl
 
 pub too-deep : wrong reading-refused.tooDeep ≡ []
-unfolding bytes holds wrong repeated nested rising turning unfoldedAfter sameBytes startsWord run quotedLen furtherAfter formOf paramOf frontOf
-    paramsAfter paramsUsed linesAfter lineOf flat steps.run steps.outcomeOf readingOf textAfter
+unfolding bytes comesTrue wrong repeated nested rising turning unfoldedAfter sameBytes startsWord run quotedLen furtherAfter formOf paramOf frontOf
+    paramsAfter paramsUsed linesAfter lineOf flat steps.readLines steps.outcomeOf readingOf textAfter
 too-deep = refl
 
 pub bad-end : wrong reading-refused.badEnd ≡ []
-unfolding bytes holds wrong rising turning unfoldedAfter sameBytes startsWord run quotedLen furtherAfter formOf paramOf frontOf paramsAfter paramsUsed
-    linesAfter lineOf flat steps.run steps.outcomeOf readingOf textAfter
+unfolding bytes comesTrue wrong rising turning unfoldedAfter sameBytes startsWord run quotedLen furtherAfter formOf paramOf frontOf paramsAfter paramsUsed
+    linesAfter lineOf flat steps.readLines steps.outcomeOf readingOf textAfter
 bad-end = refl
 
 pub outside : wrong reading-refused.outside ≡ []
-unfolding bytes holds wrong rising turning unfoldedAfter sameBytes startsWord run quotedLen furtherAfter formOf paramOf frontOf paramsAfter paramsUsed
-    linesAfter lineOf flat steps.run steps.outcomeOf readingOf textAfter
+unfolding bytes comesTrue wrong rising turning unfoldedAfter sameBytes startsWord run quotedLen furtherAfter formOf paramOf frontOf paramsAfter paramsUsed
+    linesAfter lineOf flat steps.readLines steps.outcomeOf readingOf textAfter
 outside = refl
 
 pub bad-line : wrong reading-refused.badLine ≡ []
-unfolding bytes holds wrong rising turning unfoldedAfter sameBytes startsWord run quotedLen furtherAfter formOf paramOf frontOf paramsAfter paramsUsed
-    linesAfter lineOf flat steps.run steps.outcomeOf readingOf textAfter
+unfolding bytes comesTrue wrong rising turning unfoldedAfter sameBytes startsWord run quotedLen furtherAfter formOf paramOf frontOf paramsAfter paramsUsed
+    linesAfter lineOf flat steps.readLines steps.outcomeOf readingOf textAfter
 bad-line = refl
 
 pub unclosed : wrong reading-refused.unclosed ≡ []
-unfolding bytes holds wrong rising turning unfoldedAfter sameBytes startsWord run quotedLen furtherAfter formOf paramOf frontOf paramsAfter paramsUsed
-    linesAfter lineOf flat steps.run steps.outcomeOf readingOf textAfter
+unfolding bytes comesTrue wrong rising turning unfoldedAfter sameBytes startsWord run quotedLen furtherAfter formOf paramOf frontOf paramsAfter paramsUsed
+    linesAfter lineOf flat steps.readLines steps.outcomeOf readingOf textAfter
 unclosed = refl
 
 pub no-component : wrong reading-refused.noComponent ≡ []
-unfolding bytes holds wrong rising turning unfoldedAfter sameBytes startsWord run quotedLen furtherAfter formOf paramOf frontOf paramsAfter paramsUsed
-    linesAfter lineOf flat steps.run steps.outcomeOf readingOf textAfter
+unfolding bytes comesTrue wrong rising turning unfoldedAfter sameBytes startsWord run quotedLen furtherAfter formOf paramOf frontOf paramsAfter paramsUsed
+    linesAfter lineOf flat steps.readLines steps.outcomeOf readingOf textAfter
 no-component = refl
 
 -- ---- the two folds: Done (0), an LF (11), a byte of 128 or more (12), too little room (13), and their order
 
 pub strictly : wrong folding.strictly ≡ []
-unfolding bytes holds wrong turning sameBytes run pieces.broken units foldedUnits cuts
+unfolding bytes comesTrue wrong turning sameBytes run pieces.behindBreaks units foldedUnits cuts
 strictly = refl
 
 pub refused-strictly : wrong folding.refusedStrictly ≡ []
-unfolding bytes holds wrong turning sameBytes run pieces.broken units foldedUnits cuts
+unfolding bytes comesTrue wrong turning sameBytes run pieces.behindBreaks units foldedUnits cuts
 refused-strictly = refl
 
 pub as-repository : wrong folding.asRepository ≡ []
-unfolding bytes holds wrong turning sameBytes run pieces.broken units foldedUnits cuts
+unfolding bytes comesTrue wrong turning sameBytes run pieces.behindBreaks units foldedUnits cuts
 as-repository = refl
 
 pub at-the-cut : wrong folding.atTheCut ≡ []
-unfolding bytes holds wrong turning sameBytes run pieces.broken units foldedUnits cuts
+unfolding bytes comesTrue wrong turning sameBytes run pieces.behindBreaks units foldedUnits cuts
 at-the-cut = refl
 
 pub refused-as-repository : wrong folding.refusedAsRepository ≡ []
-unfolding bytes holds wrong turning sameBytes run pieces.broken units foldedUnits cuts
+unfolding bytes comesTrue wrong turning sameBytes run pieces.behindBreaks units foldedUnits cuts
 refused-as-repository = refl
 
 -- ---- quoting: left, wrapped, and too little room (13)
 
-pub quoted : wrong quoting.quoted ≡ []
-unfolding bytes holds wrong turning sameBytes run
+pub quoted : wrong quoting.quotings ≡ []
+unfolding bytes comesTrue wrong turning sameBytes run
 quoted = refl
 
 pub too-short : wrong quoting.tooShort ≡ []
-unfolding bytes holds wrong turning sameBytes run
+unfolding bytes comesTrue wrong turning sameBytes run
 too-short = refl
 
 -- ---- what is written (answer 0) for tables made by hand, and too little room for it (13)
 
 pub lines : wrong writing.lines ≡ []
-unfolding bytes holds wrong turning sameBytes startsWord run quotedLen furtherAfter formOf tabulate broken firstBroken outFrom gather forest units
+unfolding bytes comesTrue wrong turning sameBytes startsWord run quotedLen furtherAfter formOf tabulate broken firstBroken outFrom gather forest units
     foldedUnits judgedFrom judgedIn parametersText propertyLines written writeAnswer
 lines = refl
 
 pub trees : wrong writing.trees ≡ []
-unfolding bytes holds wrong turning sameBytes startsWord run quotedLen furtherAfter formOf tabulate broken firstBroken outFrom gather forest units
+unfolding bytes comesTrue wrong turning sameBytes startsWord run quotedLen furtherAfter formOf tabulate broken firstBroken outFrom gather forest units
     foldedUnits judgedFrom judgedIn parametersText propertyLines written writeAnswer
 trees = refl
 
 pub no-out-room : wrong writing.noOutRoom ≡ []
-unfolding bytes holds wrong turning sameBytes startsWord run quotedLen furtherAfter formOf tabulate broken firstBroken outFrom gather forest units
+unfolding bytes comesTrue wrong turning sameBytes startsWord run quotedLen furtherAfter formOf tabulate broken firstBroken outFrom gather forest units
     foldedUnits judgedFrom judgedIn parametersText propertyLines written writeAnswer
 no-out-room = refl
 
 -- ---- what the writer refuses: 14 by the table rule, 15 and 12 by the writing rule, with the row, and their order. The buffer stays
 
 pub broken-components : wrong writing-refused.brokenComponents ≡ []
-unfolding bytes holds wrong turning sameBytes startsWord run quotedLen furtherAfter formOf tabulate broken firstBroken outFrom gather forest units
+unfolding bytes comesTrue wrong turning sameBytes startsWord run quotedLen furtherAfter formOf tabulate broken firstBroken outFrom gather forest units
     foldedUnits judgedFrom judgedIn parametersText propertyLines written writeAnswer
 broken-components = refl
 
 pub broken-parents : wrong writing-refused.brokenParents ≡ []
-unfolding bytes holds wrong repeated nested turning sameBytes startsWord run quotedLen furtherAfter formOf tabulate broken firstBroken outFrom gather
+unfolding bytes comesTrue wrong repeated nested turning sameBytes startsWord run quotedLen furtherAfter formOf tabulate broken firstBroken outFrom gather
     forest units foldedUnits judgedFrom judgedIn parametersText propertyLines written writeAnswer
 broken-parents = refl
 
 pub broken-properties : wrong writing-refused.brokenProperties ≡ []
-unfolding bytes holds wrong turning sameBytes startsWord run quotedLen furtherAfter formOf tabulate broken firstBroken outFrom gather forest units
+unfolding bytes comesTrue wrong turning sameBytes startsWord run quotedLen furtherAfter formOf tabulate broken firstBroken outFrom gather forest units
     foldedUnits judgedFrom judgedIn parametersText propertyLines written writeAnswer
 broken-properties = refl
 
 pub unwritable-names : wrong writing-refused.unwritableNames ≡ []
-unfolding bytes holds wrong turning sameBytes startsWord run quotedLen furtherAfter formOf tabulate broken firstBroken outFrom gather forest units
+unfolding bytes comesTrue wrong turning sameBytes startsWord run quotedLen furtherAfter formOf tabulate broken firstBroken outFrom gather forest units
     foldedUnits judgedFrom judgedIn parametersText propertyLines written writeAnswer
 unwritable-names = refl
 
 pub unwritable-values : wrong writing-refused.unwritableValues ≡ []
-unfolding bytes holds wrong turning sameBytes startsWord run quotedLen furtherAfter formOf tabulate broken firstBroken outFrom gather forest units
+unfolding bytes comesTrue wrong turning sameBytes startsWord run quotedLen furtherAfter formOf tabulate broken firstBroken outFrom gather forest units
     foldedUnits judgedFrom judgedIn parametersText propertyLines written writeAnswer
 unwritable-values = refl
 
 pub not-ascii : wrong writing-refused.notAscii ≡ []
-unfolding bytes holds wrong turning sameBytes startsWord run quotedLen furtherAfter formOf tabulate broken firstBroken outFrom gather forest units
+unfolding bytes comesTrue wrong turning sameBytes startsWord run quotedLen furtherAfter formOf tabulate broken firstBroken outFrom gather forest units
     foldedUnits judgedFrom judgedIn parametersText propertyLines written writeAnswer
 not-ascii = refl
 
-pub in-order : wrong writing-refused.inOrder ≡ []
-unfolding bytes holds wrong turning sameBytes startsWord run quotedLen furtherAfter formOf tabulate broken firstBroken outFrom gather forest units
+pub in-order : wrong writing-refused.inTurn ≡ []
+unfolding bytes comesTrue wrong turning sameBytes startsWord run quotedLen furtherAfter formOf tabulate broken firstBroken outFrom gather forest units
     foldedUnits judgedFrom judgedIn parametersText propertyLines written writeAnswer
 in-order = refl
 
 -- ---- the parts of a reading by themselves: unfolding, views, keys and one parameter
 
 pub unfoldings : wrong parts.unfoldings ≡ []
-unfolding bytes holds wrong turning sameBytes startsWord run unfoldedAfter quotedLen furtherAfter formOf paramOf frontOf
+unfolding bytes comesTrue wrong turning sameBytes startsWord run unfoldedAfter quotedLen furtherAfter formOf paramOf frontOf
 unfoldings = refl
 
-pub viewed : wrong parts.viewed ≡ []
-unfolding bytes holds wrong turning sameBytes startsWord run unfoldedAfter quotedLen furtherAfter formOf paramOf frontOf
+pub viewed : wrong parts.viewings ≡ []
+unfolding bytes comesTrue wrong turning sameBytes startsWord run unfoldedAfter quotedLen furtherAfter formOf paramOf frontOf
 viewed = refl
 
 pub keyed : wrong parts.keyed ≡ []
-unfolding bytes holds wrong turning sameBytes startsWord run unfoldedAfter quotedLen furtherAfter formOf paramOf frontOf
+unfolding bytes comesTrue wrong turning sameBytes startsWord run unfoldedAfter quotedLen furtherAfter formOf paramOf frontOf
 keyed = refl
 
 pub one-parameter : wrong parts.oneParameter ≡ []
-unfolding bytes holds wrong turning sameBytes startsWord run unfoldedAfter quotedLen furtherAfter formOf paramOf frontOf
+unfolding bytes comesTrue wrong turning sameBytes startsWord run unfoldedAfter quotedLen furtherAfter formOf paramOf frontOf
 one-parameter = refl

@@ -15,11 +15,11 @@ use Rattle.quoting.specs.Answers.{quoteAnswer, quoteOut}
 use Rattle.writable.specs.WritingRule.{judgedIn}
 use Rattle.writable.specs.declared.Judged.{Judged}
 use Rattle.writing.specs.Answers.{writtenIn, writeAnswer, writeOut}
-use Rattle.worked.specs.Cases.{readingNumbers, outputNumbers}
+use Rattle.worked.specs.Cases.{sixNumbers, threeNumbers}
 
 -- a reading: "over the byte limit"; "0; rest 0"; "Refusals 1 and 2 change nothing lent."
 module _ (feed : List ℕ) (b : Lent) where
-  pub too-long : 1048576 < length feed → readingNumbers (readInto feed b) ≡ 1 ∷ 0 ∷ 0 ∷ 0 ∷ 0 ∷ 0 ∷ []
+  pub too-long : 1048576 < length feed → sixNumbers (readInto feed b) ≡ 1 ∷ 0 ∷ 0 ∷ 0 ∷ 0 ∷ 0 ∷ []
   unfolding readingOf
   too-long over = rw (lt-leb (length feed) 1048576 over)
 
@@ -34,7 +34,7 @@ module _ (feed : List ℕ) (b : Lent) where
 
 -- either fold: "Order in a fold: 1, 11, 12, 13"
 module _ (fold : List ℕ → List ℕ) (line old : List ℕ) (over : 1048576 < length line) where
-  pub line-too-long : outputNumbers (foldAnswer fold line (length old)) ≡ 1 ∷ 0 ∷ 0 ∷ []
+  pub line-too-long : threeNumbers (foldAnswer fold line (length old)) ≡ 1 ∷ 0 ∷ 0 ∷ []
   line-too-long = rw (lt-leb (length line) 1048576 over)
 
   pub line-too-long-leaves : foldOut fold line old ≡ old
@@ -42,7 +42,7 @@ module _ (fold : List ℕ → List ℕ) (line old : List ℕ) (over : 1048576 < 
 
 -- quoting: "in quoting, of any bytes: 1, 13"
 module _ (value old : List ℕ) (over : 1048576 < length value) where
-  pub value-too-long : outputNumbers (quoteAnswer value (length old)) ≡ 1 ∷ 0 ∷ 0 ∷ []
+  pub value-too-long : threeNumbers (quoteAnswer value (length old)) ≡ 1 ∷ 0 ∷ 0 ∷ []
   value-too-long = rw (lt-leb (length value) 1048576 over)
 
   pub value-too-long-leaves : quoteOut value old ≡ old
@@ -50,7 +50,7 @@ module _ (value old : List ℕ) (over : 1048576 < length value) where
 
 -- the writer: behind 14, 15 and 12, and before 13: "then 1, 13"
 module _ (b : Lent) (old : List ℕ) (sound : brokenIn b ≡ Nothing) (writable : judgedIn b ≡ Judged.Writable) (over : 1048576 < length (writtenIn b)) where
-  pub output-too-long : outputNumbers (writeAnswer b (length old)) ≡ 1 ∷ 0 ∷ 0 ∷ []
+  pub output-too-long : threeNumbers (writeAnswer b (length old)) ≡ 1 ∷ 0 ∷ 0 ∷ []
   unfolding writeAnswer
   output-too-long = rw (sound, writable, lt-leb (length (writtenIn b)) 1048576 over)
 

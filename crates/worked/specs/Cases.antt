@@ -118,12 +118,12 @@ case name says = record { name = name; says = says }
 -- ---- when it holds
 
 -- "answer, place, text length, then counts of components, properties, parameters"
-abbrev pub readingNumbers : Reading → List ℕ
-readingNumbers r = r .answer ∷ r .place ∷ r .length ∷ r .components ∷ r .properties ∷ r .parameters ∷ []
+abbrev pub sixNumbers : Reading → List ℕ
+sixNumbers r = r .answer ∷ r .place ∷ r .length ∷ r .components ∷ r .properties ∷ r .parameters ∷ []
 
 -- "answer, place and the output length"
-abbrev pub outputNumbers : Output → List ℕ
-outputNumbers o = o .answer ∷ o .place ∷ o .length ∷ []
+abbrev pub threeNumbers : Output → List ℕ
+threeNumbers o = o .answer ∷ o .place ∷ o .length ∷ []
 
 abbrev pub keyNumbers : Key → List ℕ
 keyNumbers Reserved = []
@@ -144,20 +144,20 @@ sameLent a b =
 
 -- the numbers of an output, and the buffer
 abbrev pub comesOut : Output → List ℕ → List ℕ → List ℕ → Bool
-comesOut o out numbers after = sameBytes (outputNumbers o) numbers && sameBytes out after
+comesOut o out numbers after = sameBytes (threeNumbers o) numbers && sameBytes out after
 
-unfoldable pub holds : Claim → Bool
-holds (reads feed before numbers after) = sameBytes (readingNumbers (readInto feed before)) numbers && sameLent (left feed before) after
-holds (folds line before numbers after) = comesOut (foldAnswer repository line (length before)) (foldOut repository line before) numbers after
-holds (foldsStrictly line before numbers after) = comesOut (foldAnswer strict line (length before)) (foldOut strict line before) numbers after
-holds (quotes value before numbers after) = comesOut (quoteAnswer value (length before)) (quoteOut value before) numbers after
-holds (writes tables before numbers after) = comesOut (writeAnswer tables (length before)) (writeOut tables before) numbers after
-holds (unfolds feed before count after) = eqb (length (unfolded feed)) count && sameBytes (laid (unfolded feed) before) after
-holds (views text start len part) = sameBytes (viewed text start len) part
-holds (hasKey line numbers) = sameBytes (keyNumbers (keyOf line)) numbers
-holds (hasParameter rest numbers) = sameBytes (frontNumbers (frontOf rest)) numbers
+unfoldable pub comesTrue : Claim → Bool
+comesTrue (reads feed before numbers after) = sameBytes (sixNumbers (readInto feed before)) numbers && sameLent (left feed before) after
+comesTrue (folds line before numbers after) = comesOut (foldAnswer repository line (length before)) (foldOut repository line before) numbers after
+comesTrue (foldsStrictly line before numbers after) = comesOut (foldAnswer strict line (length before)) (foldOut strict line before) numbers after
+comesTrue (quotes value before numbers after) = comesOut (quoteAnswer value (length before)) (quoteOut value before) numbers after
+comesTrue (writes tables before numbers after) = comesOut (writeAnswer tables (length before)) (writeOut tables before) numbers after
+comesTrue (unfolds feed before count after) = eqb (length (unfolded feed)) count && sameBytes (laid (unfolded feed) before) after
+comesTrue (views text start len part) = sameBytes (viewed text start len) part
+comesTrue (hasKey line numbers) = sameBytes (keyNumbers (keyOf line)) numbers
+comesTrue (hasParameter rest numbers) = sameBytes (frontNumbers (frontOf rest)) numbers
 
 -- the names of the cases that do not hold
 unfoldable pub wrong : List Case → List strings.String
 wrong [] = []
-wrong (c ∷ cs) = pick (holds (c .says)) (wrong cs) (c .name ∷ wrong cs)
+wrong (c ∷ cs) = pick (comesTrue (c .says)) (wrong cs) (c .name ∷ wrong cs)

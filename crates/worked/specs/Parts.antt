@@ -21,8 +21,8 @@ unfoldings =
     ∷ []
 
 -- views: any start and length
-abbrev pub viewed : List Case
-viewed =
+abbrev pub viewings : List Case
+viewings =
     -- "Any start and length can be answered as a part of the text lent"
     case "a view inside" (views (bytes "abc") 1 1 (bytes "b"))
     -- the same

@@ -4,8 +4,8 @@ use mathlib.Core.List.{List, [], _∷_, _++_}
 use Rattle.worked.specs.Cases.{bytes, bytes₀, Case, case, quotes}
 
 -- Done
-abbrev pub quoted : List Case
-quoted =
+abbrev pub quotings : List Case
+quotings =
     -- "wrapped if it holds `:`, `;` or `,`, else left"
     case "a bare value"
     (quotes (bytes "a") (bytes₀ 3) (0 ∷ 0 ∷ 1 ∷ []) (bytes "a" ++ 171 ∷ 172 ∷ []))

@@ -189,8 +189,8 @@ notAscii =
     ∷ []
 
 -- which refusal is told
-abbrev pub inOrder : List Case
-inOrder =
+abbrev pub inTurn : List Case
+inTurn =
     -- "15 winning in one row"
     case "12 and 15 in one row"
     (writes (lent (bytes "AK" ++ 128 ∷ bytes "\n") (4294967295 ∷ 1 ∷ 0 ∷ 1 ∷ []) (0 ∷ 1 ∷ 1 ∷ 2 ∷ 2 ∷ []) [])

@@ -18,7 +18,7 @@ use Rattle.folding.proofs.Answers.{both}
 use Rattle.tables.specs.Rows.{componentSize, propertySize, componentAt, propertyAt, rowsOf}
 use Rattle.tables.specs.Lent.{Lent, componentsIn, propertiesIn, parametersIn}
 use Rattle.tables.proofs.Laws.{length-rows, row-here, rows-end}
-use Rattle.writable.specs.WritingRule.{some, nameFits, keyFits, noBreak, clean, presentFits, verdict, componentVerdict, propertyVerdict, parameterVerdict, told, judgedFrom, judgedIn}
+use Rattle.writable.specs.WritingRule.{someByte, nameFits, keyFits, noBreak, clean, presentFits, verdict, componentVerdict, propertyVerdict, parameterVerdict, judgedBy, judgedFrom, judgedIn}
 use Rattle.writable.specs.declared.Verdict.{Verdict}
 use Rattle.writable.specs.declared.Judged.{Judged}
 
@@ -51,7 +51,7 @@ module _ (value : List ℕ) where
 
   module _ {q : Bool} (is : q ≡ only (other quote) value || isList value) where
     pub stray-quote : not q ≡ true → Verdict.Unwritable ≡ verdict (presentFits value) (only ascii value)
-    stray-quote t = rw (sym is ∙ not-true q t, and-false (only noBreak value), and-false (some value))
+    stray-quote t = rw (sym is ∙ not-true q t, and-false (only noBreak value), and-false (someByte value))
 
     pub sound-quotes : (length value ≡ 0 → ⊥) → not q ≡ false → verdict (only noBreak value) (only ascii value) ≡ verdict (presentFits value) (only ascii value)
     sound-quotes full t = rw (lt-ltb 0 (length value) (omega arith), sym is ∙ not-false q t, and-true (only noBreak value))
@@ -106,7 +106,7 @@ module _ {A : Type 0} (verdictOf : A → Verdict) where
   then row [] rest = refl
   then row (x ∷ xs) rest = go (verdictOf x) (judgedFrom verdictOf (row + 1) xs Judged.Writable) (then (row + 1) xs rest)
     where
-      go : (v : Verdict) (b : Judged) {a : Judged} → a ≡ orElse b rest → told v row a ≡ orElse (told v row b) rest
+      go : (v : Verdict) (b : Judged) {a : Judged} → a ≡ orElse b rest → judgedBy v row a ≡ orElse (judgedBy v row b) rest
       go Verdict.Fine b e = e
       go Verdict.Unwritable b e = refl
       go Verdict.NotAscii b e = refl
@@ -135,7 +135,7 @@ module _ {A : Type 0} (verdictOf : A → Verdict) where
 
 module _ {A : Type 0} {verdictOf : A → Verdict} {size : ℕ} {at : List ℕ → ℕ → A} {table : List ℕ} {first i : ℕ} {v : Verdict}
     (t : Turn verdictOf size at table first i v) where
-  turned : told v (first + i) (judgedFrom verdictOf (first + (i + 1)) (drop (i + 1) (rowsOf size at table)) Judged.Writable)
+  turned : judgedBy v (first + i) (judgedFrom verdictOf (first + (i + 1)) (drop (i + 1) (rowsOf size at table)) Judged.Writable)
       ≡ tableJudged verdictOf size at table first
   unfolding judgedFrom
   turned = rw (row-here size at table i (t .inside), ← t .is, add-assoc) at (t .so-far)

@@ -21,12 +21,12 @@ use Rattle.writable.specs.declared.Verdict.{Verdict}
 use Rattle.writable.specs.declared.Judged.{Judged}
 
 -- one byte or more
-abbrev pub some : List ℕ → Bool
-some xs = ltb 0 (length xs)
+abbrev pub someByte : List ℕ → Bool
+someByte xs = ltb 0 (length xs)
 
 -- "names and keys of key bytes, only parameter keys may be empty"
 abbrev pub nameFits : List ℕ → Bool
-nameFits name = some name && only keyByte name
+nameFits name = someByte name && only keyByte name
 
 -- "no property key BEGIN or END in any case": a reader would take such a line for no property
 abbrev pub keyFits : List ℕ → Bool
@@ -42,7 +42,7 @@ clean x = noBreak x && ascii x
 
 -- "a present parameter value is not empty and either has no `"` or is a list of two or more quoted parts"
 abbrev pub presentFits : List ℕ → Bool
-presentFits value = some value && (only noBreak value && (only (other quote) value || isList value))
+presentFits value = someByte value && (only noBreak value && (only (other quote) value || isList value))
 
 abbrev pub valueFits : Value → Bool
 valueFits absent = true
@@ -71,15 +71,15 @@ module _ (text : List ℕ) where
       verdict (only keyByte (viewed text (p .«key_start») (p .«key_len»)) && valueFits (valueOf text p)) (valueAscii (valueOf text p))
 
 -- a row that is not fine is told with its number; else those behind it are judged
-abbrev pub told : Verdict → ℕ → Judged → Judged
-told Verdict.Fine row rest = rest
-told Verdict.Unwritable row rest = Judged.Unwritable row
-told Verdict.NotAscii row rest = Judged.NotAscii row
+abbrev pub judgedBy : Verdict → ℕ → Judged → Judged
+judgedBy Verdict.Fine row rest = rest
+judgedBy Verdict.Unwritable row rest = Judged.Unwritable row
+judgedBy Verdict.NotAscii row rest = Judged.NotAscii row
 
 -- the first of rows numbered from `row` on that is not fine; behind them `rest` is told
 unfoldable pub judgedFrom : {A : Type 0} → (A → Verdict) → ℕ → List A → Judged → Judged
 judgedFrom verdictOf row [] rest = rest
-judgedFrom verdictOf row (x ∷ xs) rest = told (verdictOf x) row (judgedFrom verdictOf (row + 1) xs rest)
+judgedFrom verdictOf row (x ∷ xs) rest = judgedBy (verdictOf x) row (judgedFrom verdictOf (row + 1) xs rest)
 
 -- the first row of the three tables, "numbered through the three tables, components first"
 unfoldable pub judgedIn : Lent → Judged

@@ -10,7 +10,7 @@ ghost use Rattle.tables.specs.Rows.{propertySize};
 ghost use Rattle.tables.specs.Fronts.{front};
 ghost use Rattle.tables.specs.Lent.{lent, componentsIn, propertiesIn, parametersIn, nameIn};
 ghost use Rattle.walking.specs.Walk.{heldBefore};
-ghost use Rattle.walking.specs.Places.{Rising, Owns, Ruled, Ordered, Placed};
+ghost use Rattle.walking.specs.Places.{RisingParameters, Owns, Ruled, Ordered, Arrived};
 ghost use Rattle.printing.specs.Lines.{closedLine, endLine};
 ghost use Rattle.writing.specs.Answers.{byLength, writtenIn, writeAnswer, writeOut};
 ghost use Rattle.writing.specs.Places.{WroteHead, Wrote, lineIn, linesIn};
@@ -54,7 +54,7 @@ fn write_property(
     out: &mut [u8],
     at: usize,
 ) -> Printed
-    requires { ⌜ (number < length (now properties) / propertySize) × Rising (parametersIn (now parameters)) × (first ≤ front (heldBefore number) (parametersIn (now parameters))) ⌝ }
+    requires { ⌜ (number < length (now properties) / propertySize) × RisingParameters (parametersIn (now parameters)) × (first ≤ front (heldBefore number) (parametersIn (now parameters))) ⌝ }
     ensures { λ r. ⌜ Lays at (lineIn (now (text .entry)) (now (properties .entry)) (now (parameters .entry)) number) (now (out .entry)) (now (out .exit)) (r .length) ⌝ }
     ensures { λ r. ⌜ r .next ≤ front (heldBefore (number + 1)) (parametersIn (now (parameters .entry))) ⌝ }
 {
@@ -78,7 +78,7 @@ fn write_properties(
     out: &mut [u8],
     at: usize,
 ) -> usize
-    requires { ⌜ Rising (parametersIn (now parameters)) × Owns (propertiesIn (now properties)) (parametersIn (now parameters)) row window ⌝ }
+    requires { ⌜ RisingParameters (parametersIn (now parameters)) × Owns (propertiesIn (now properties)) (parametersIn (now parameters)) row window ⌝ }
     ensures { λ r. ⌜ Lays at (linesIn (now (text .entry)) (now (properties .entry)) (now (parameters .entry)) row) (now (out .entry)) (now (out .exit)) r ⌝ }
 {
     let last = window.last;
@@ -116,7 +116,7 @@ fn write_head(
     at: usize,
 ) -> Written
     requires { ⌜ Ruled (lent (now text) (now components) (now properties) (now parameters)) ⌝ }
-    requires { ⌜ Placed (lent (now text) (now components) (now properties) (now parameters)) (place .row) (place .ordered) cursor ⌝ }
+    requires { ⌜ Arrived (lent (now text) (now components) (now properties) (now parameters)) (place .row) (place .ordered) cursor ⌝ }
     ensures { λ r. ⌜ WroteHead (lent (now (text .entry)) (now (components .entry)) (now (properties .entry)) (now (parameters .entry))) (place .row) at (now (out .entry)) (now (out .exit)) r ⌝ }
 {
     let row = place.row;
@@ -162,7 +162,7 @@ fn write_component(
     at: usize,
 ) -> Written
     requires { ⌜ Ruled (lent (now text) (now components) (now properties) (now parameters)) ⌝ }
-    requires { ⌜ Placed (lent (now text) (now components) (now properties) (now parameters)) (place .row) (place .ordered) cursor ⌝ }
+    requires { ⌜ Arrived (lent (now text) (now components) (now properties) (now parameters)) (place .row) (place .ordered) cursor ⌝ }
     ensures { λ r. ⌜ Wrote (lent (now (text .entry)) (now (components .entry)) (now (properties .entry)) (now (parameters .entry))) place at (now (out .entry)) (now (out .exit)) r ⌝ }
 {
     let row = place.row;

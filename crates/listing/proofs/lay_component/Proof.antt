@@ -4,7 +4,7 @@ use mathlib.Core.List.{List, _++_}
 use native.Mathlib.Omega.{arith}
 use Rattle.octets.proofs.Writing.{start, more, end, from-as}
 use Rattle.listing.specs.Texts.{field, decimal, parentField}
-use Rattle.listing.specs.Lines.{componentLine}
+use Rattle.listing.specs.Lines.{listedComponent}
 use Rattle.octets.specs.Views.{viewed}
 use Rattle.octets.specs.Bytes.{space, lf}
 use Prim.Native.Nat.{ℕ}
@@ -53,7 +53,7 @@ returns c =
     let text = a .text .now in
     let name = viewed text (row .«name_start») (row .«name_len») in
     let v = after-lay-parent c .before .before .view .ensures .0 in
-    let w0 = start (a .at) (a .out .now) (componentLine text row) in
+    let w0 = start (a .at) (a .out .now) (listedComponent text row) in
     let w1 = more w0 (omega arith) (parentField (row .parent)) (field (decimal (row .depth)) space ++ field name lf) refl (after-lay-parent c .lay-parent .ensures) in
     let w2 = more w1 (omega arith) (field (decimal (row .depth)) space) (field name lf) refl (after-lay-number c .lay-number .ensures) in
     end w2 (from-as (ap (λ (k : List ℕ). field k lf) v) (c .before .before .lay-field .ensures))

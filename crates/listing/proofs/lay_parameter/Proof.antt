@@ -4,7 +4,7 @@ use mathlib.Core.List.{List, _++_}
 use native.Mathlib.Omega.{arith}
 use Rattle.octets.proofs.Writing.{start, more, end, from-as}
 use Rattle.listing.specs.Texts.{field, decimal}
-use Rattle.listing.specs.Lines.{parameterLine}
+use Rattle.listing.specs.Lines.{listedParameter}
 use Rattle.octets.specs.Views.{viewed}
 use Rattle.octets.specs.Bytes.{space, lf, equals}
 use Prim.Native.Nat.{ℕ}
@@ -66,7 +66,7 @@ returns c =
     let row = a .row in
     let text = a .text .now in
     let key = viewed text (row .«key_start») (row .«key_len») in
-    let w0 = start (a .at) (a .out .now) (parameterLine text row) in
+    let w0 = start (a .at) (a .out .now) (listedParameter text row) in
     let w1 = more w0 (omega arith) (field (decimal (row .property)) space) (field key lf) (absent text row (c .before .before .before .before .if1 .taken)) (number-of-absent c .lay-number .ensures) in
     end w1 (from-as (ap (λ (k : List ℕ). field k lf) (after-view (number-of-absent c) .view .ensures .0)) (c .before .before .lay-field .ensures))
 
@@ -87,7 +87,7 @@ returns-2 c =
     let text = a .text .now in
     let key = viewed text (row .«key_start») (row .«key_len») in
     let value = viewed text (row .«value_start») (row .«value_len») in
-    let w0 = start (a .at) (a .out .now) (parameterLine text row) in
+    let w0 = start (a .at) (a .out .now) (listedParameter text row) in
     let w1 = more w0 (omega arith) (field (decimal (row .property)) space) (field key equals ++ field value lf)
     (present text row (after-lay-field2 c .before .before .if1 .left)) (number-of-present c .lay-number .ensures) in
     let w2 = more w1 (omega arith) (field key equals) (field value lf) refl

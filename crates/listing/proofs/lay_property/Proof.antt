@@ -4,7 +4,7 @@ use mathlib.Core.List.{List, _++_}
 use native.Mathlib.Omega.{arith}
 use Rattle.octets.proofs.Writing.{start, more, end, from-as}
 use Rattle.listing.specs.Texts.{field, decimal}
-use Rattle.listing.specs.Lines.{propertyLine}
+use Rattle.listing.specs.Lines.{listedProperty}
 use Rattle.octets.specs.Views.{viewed}
 use Rattle.octets.specs.Bytes.{space, lf}
 use Prim.Native.Nat.{ℕ}
@@ -66,7 +66,7 @@ returns c =
     let text = a .text .now in
     let key = viewed text (row .«key_start») (row .«key_len») in
     let value = viewed text (row .«value_start») (row .«value_len») in
-    let w0 = start (a .at) (a .out .now) (propertyLine text row) in
+    let w0 = start (a .at) (a .out .now) (listedProperty text row) in
     let w1 = more w0 (omega arith) (field (decimal (row .owner)) space) (field key space ++ field value lf) refl (after-lay-number c .lay-number .ensures) in
     let w2 = more w1 (omega arith) (field key space) (field value lf) refl (from-as (ap (λ (k : List ℕ). field k space) (after-view c .view .ensures .0)) (after-lay-field c .lay-field .ensures)) in
     end w2 (from-as (ap (λ (k : List ℕ). field k lf) (after-lay-number c .before .before .before .view2 .ensures .0)) (c .before .before .lay-field2 .ensures))

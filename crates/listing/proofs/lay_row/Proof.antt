@@ -1,7 +1,7 @@
 -- `listing::lay_row`: by the section.
 use mathlib.Core.Path.{ap}
 use Rattle.octets.proofs.Writing.{from-as}
-use Rattle.listing.specs.Lines.{componentLine, propertyLine, parameterLine}
+use Rattle.listing.specs.Lines.{listedComponent, listedProperty, listedParameter}
 use borrow.Author.Needs.{needs}
 use Rattle.listing.proofs.lay_row.Statement.{statement}
 use Rattle.listing.proofs.lay_row.Tie as tie
@@ -65,7 +65,7 @@ returns : tie.Need-returns
 returns c =
     let a = at-start-from-lay-component c .args in
     rw (after-enum-told c .enum-told .given .1)
-    (from-as (ap (componentLine (a .text .now)) (c .before .before .before .before .component-at .ensures)) (c .before .before .lay-component .ensures))
+    (from-as (ap (listedComponent (a .text .now)) (c .before .before .before .before .component-at .ensures)) (c .before .before .lay-component .ensures))
 
 same-length-2 : tie.Need-same-length-2
 same-length-2 c = search needs
@@ -74,7 +74,7 @@ returns-2 : tie.Need-returns-2
 returns-2 c =
     let a = at-start-from-lay-property c .args in
     rw (after-enum-told2 c .enum-told2 .given .1)
-    (from-as (ap (propertyLine (a .text .now)) (c .before .before .before .before .property-at .ensures)) (c .before .before .lay-property .ensures))
+    (from-as (ap (listedProperty (a .text .now)) (c .before .before .before .before .property-at .ensures)) (c .before .before .lay-property .ensures))
 
 same-length-3 : tie.Need-same-length-3
 same-length-3 c = search needs
@@ -83,7 +83,7 @@ returns-3 : tie.Need-returns-3
 returns-3 c =
     let a = at-start-from-lay-parameter c .args in
     rw (after-enum-told3 c .enum-told3 .given .1)
-    (from-as (ap (parameterLine (a .text .now)) (c .before .before .before .before .parameter-at .ensures)) (c .before .before .lay-parameter .ensures))
+    (from-as (ap (listedParameter (a .text .now)) (c .before .before .before .before .parameter-at .ensures)) (c .before .before .lay-parameter .ensures))
 
 pub lay-row-spec : {M : Type 1} → statement M
 lay-row-spec =

@@ -2,7 +2,7 @@
 use mathlib.Core.Path.{_≡_}
 use native.Mathlib.Omega.{arith}
 use Rattle.octets.proofs.Writing.{Writing, start, more, end, stays}
-use Rattle.listing.specs.Lines.{rowLine, linesFrom}
+use Rattle.listing.specs.Lines.{listedRow, listedRows}
 use Prim.Native.Nat.{_+_, _-_, _≤_}
 use native.Mathlib.Nat.{lt-of-lt-of-le}
 use Rattle.octets.specs.Laid.{most}
@@ -12,7 +12,7 @@ use Rattle.listing.proofs.lay_rows.Tie as tie
 
 abbrev Inv-loop : tie.InvT-loop
 Inv-loop which text table count out₀ at to₀ row₀ out to row =
-    (row ≤ count) × ((to ≤ most) × Writing at out₀ (linesFrom (rowLine which text table) 0 count) out (linesFrom (rowLine which text table) row (count - row)) to)
+    (row ≤ count) × ((to ≤ most) × Writing at out₀ (listedRows (listedRow which text table) 0 count) out (listedRows (listedRow which text table) row (count - row)) to)
 
 abbrev μ-loop : tie.MeasureT-loop
 μ-loop which text table count out₀ at to₀ row₀ out to row = count - row
@@ -31,7 +31,7 @@ loop-holds : tie.Need-loop-holds Inv-loop μ-loop
 loop-holds c =
     let a = c .before .before .before .args in
     let e : a .count - 0 ≡ a .count = omega arith in
-    (omega arith, (omega arith, rw e (start (a .at) (a .out .now) (linesFrom (rowLine (a .which) (a .text .now) (a .table .now)) 0 (a .count)))))
+    (omega arith, (omega arith, rw e (start (a .at) (a .out .now) (listedRows (listedRow (a .which) (a .text .now) (a .table .now)) 0 (a .count)))))
 
 lay-row-requires : tie.Need-lay-row-requires Inv-loop μ-loop
 lay-row-requires c κs = lt-of-lt-of-le (c .before .loop-test .taken) (start-in-turn c .pre)
@@ -46,12 +46,12 @@ loop-again : tie.Need-loop-again Inv-loop μ-loop
 loop-again c =
     let y = c .before .before in
     let a = start-in-turn (y .before) .args in
-    let line = rowLine (a .which) (a .text .now) (a .table .now) in
+    let line = listedRow (a .which) (a .text .now) (a .table .now) in
     let l = y .before .before .before .loop in (
       omega arith,
       (
         omega (arith, y .lay-row .ensures .count),
-        more (l .inv .1 .1) (omega arith) (line (l .row)) (linesFrom line (l .row + 1) (a .count - (l .row + 1)))
+        more (l .inv .1 .1) (omega arith) (line (l .row)) (listedRows line (l .row + 1) (a .count - (l .row + 1)))
             (next-line line (l .row) (a .count) (y .before .before .loop-test .taken)) (y .lay-row .ensures),
       ),
     )
@@ -62,7 +62,7 @@ same-length c = c .before .loop .inv .1 .1 .same
 returns : tie.Need-returns Inv-loop μ-loop
 returns c =
     let a = start-at-end c .args in
-    let line = rowLine (a .which) (a .text .now) (a .table .now) in
+    let line = listedRow (a .which) (a .text .now) (a .table .now) in
     let l = c .before .loop in
     end (l .inv .1 .1) (rw (no-lines line (l .row) (a .count) (c .loop-test .left)) (stays (l .to) (l .out) (l .inv .1 .0)))
 

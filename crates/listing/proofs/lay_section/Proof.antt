@@ -4,7 +4,7 @@ use mathlib.Core.List.{_++_}
 use native.Mathlib.Omega.{arith}
 use Rattle.octets.proofs.Writing.{start, more, end}
 use Rattle.listing.specs.Texts.{field, decimal}
-use Rattle.listing.specs.Lines.{rowLine, linesFrom, heading, sectionText}
+use Rattle.listing.specs.Lines.{listedRow, listedRows, heading, sectionText}
 use Rattle.octets.specs.Bytes.{lf}
 use borrow.Author.Needs.{needs}
 use Rattle.listing.proofs.lay_section.Statement.{statement}
@@ -35,7 +35,7 @@ same-length c = search needs
 returns : tie.Need-returns
 returns c =
     let a = at-start c .args in
-    let lines = linesFrom (rowLine (a .which) (a .text .now) (a .table .now)) 0 (a .count) in
+    let lines = listedRows (listedRow (a .which) (a .text .now) (a .table .now)) 0 (a .count) in
     let w0 = start (a .at) (a .out .now) (sectionText (a .which) (a .text .now) (a .table .now) (a .count)) in
     let w1 = more w0 (omega arith) (heading (a .which)) (field (decimal (a .count)) lf ++ lines) refl (after-lay-heading c .lay-heading .ensures) in
     let w2 = more w1 (omega arith) (field (decimal (a .count)) lf) lines refl (after-lay-number c .lay-number .ensures) in
