@@ -26,7 +26,7 @@ use Rattle.writing.specs.Answers.{writtenIn, writeAnswer, writeOut}
 use Rattle.twins.specs.Answers.{levels}
 use Rattle.demands.specs.Lent.{toldOf}
 use Rattle.demands.specs.Outputs.{toldBytes}
-use Rattle.demands.specs.Readable.{Readable, ReadTo}
+use Rattle.demands.specs.Readable.{ReadTo}
 use Rattle.demands.specs.Returning.{Fit, Shallow, Nests, ReadsBack, Enough, linesOf, plainLines, placedFrom}
 use Rattle.demands.proofs.Outputs.{at-front}
 use Rattle.demands.proofs.Readable.{readable-done}

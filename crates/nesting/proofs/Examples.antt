@@ -10,7 +10,6 @@ use Rattle.lines.specs.Split.{linesAfter}
 use Rattle.lines.specs.Rule.{lineOf}
 use Rattle.nesting.specs.Steps.{readLines, outcomeOf}
 use Rattle.nesting.specs.declared.Refusal.{Refusal}
-use Rattle.nesting.specs.declared.Outcome.{Outcome}
 use Rattle.nesting.specs.declared.Outcome.the-variants.{Read, Refused}
 
 abbrev texts : List (List ℕ)

@@ -2,7 +2,7 @@
 -- Assumes nothing.
 use Prim.Native.Nat.{ℕ, _+_}
 use mathlib.Core.List.{List, [], _∷_, map}
-use lib.ListN.{length, drop}
+use lib.ListN.{drop}
 use Rattle.octets.specs.declared.Span.{Span}
 use Rattle.parameters.specs.declared.Value.{Value}
 use Rattle.parameters.specs.declared.Value.the-variants.{Absent, Present}

@@ -4,17 +4,14 @@
 use Prim.Native.Nat.{ℕ, _+_}
 use mathlib.Core.Bool.{Bool}
 use mathlib.Core.List.{List, [], _∷_, _++_}
-use lib.ListN.{length, drop}
+use lib.ListN.{length}
 use lib.Dec.{eqb, ltb}
 use Rattle.octets.specs.Choice.{pick}
 use Rattle.octets.specs.Answers.{deepest}
 use Rattle.octets.specs.Views.{viewed}
 use Rattle.octets.specs.Words.{sameBytes}
-use Rattle.octets.specs.declared.Span.{Span}
 use Rattle.lines.specs.Split.{Placed, linesFrom}
 use Rattle.lines.specs.Rule.{lineOf}
-use Rattle.lines.specs.declared.Fault.{Fault}
-use Rattle.lines.specs.declared.Property.{Property}
 use Rattle.lines.specs.declared.Line.{Line}
 use Rattle.lines.specs.declared.Line.the-variants.{Empty, Begin, BadBegin, End, Content, Bad}
 use Rattle.tables.specs.declared.ComponentRow.{ComponentRow}

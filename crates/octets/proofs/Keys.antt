@@ -11,7 +11,6 @@ use Rattle.octets.specs.Bytes.{keyByte, between, lowered}
 use Rattle.octets.specs.Runs.{run}
 use Rattle.octets.specs.Words.{startsWord, beginWord, endWord}
 use Rattle.octets.specs.Keys.{opensReserved, reserved, keyOf}
-use Rattle.octets.specs.declared.Key.{Key}
 use Rattle.octets.specs.declared.Key.the-variants.{Reserved, Run}
 
 pub refused : (line : List ℕ) → reserved line ≡ true → keyOf line ≡ Reserved

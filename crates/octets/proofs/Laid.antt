@@ -2,14 +2,14 @@
 use mathlib.Core.Path.{_≡_, refl, sym, ap, _∙_}
 use mathlib.Core.List.{List, [], _∷_, _++_, append-nil, append-assoc}
 use mathlib.Core.Bool.{Bool, true, false}
-use Prim.Native.Nat.{ℕ, zero, suc, _+_, _-_, _≤_, _<_, min}
+use Prim.Native.Nat.{ℕ, _+_, _-_, _≤_, _<_, min}
 use lib.Dec.{leb}
 use borrow.Author.Tests.{leb-true, leb-false}
 use native.Mathlib.Nat.{zero-add, min-eq-left, min-eq-right, le-refl, le-of-lt}
 use native.Mathlib.Numerals.{add-one}
 use native.Mathlib.Omega.{arith}
-use lib.ListN.{length, take, drop, drop-of-length-le, set, getD, length-append, length-take, length-drop, take-append-drop}
-use lib.Seq.{take-all, take-add, take-take, take-append-le, drop-append-add, drop-drop, length-take-le, sets, sets-eq, length-sets, slice, slice-cons, slice-empty}
+use lib.ListN.{length, take, drop, drop-of-length-le, set, getD, length-append, length-take, length-drop}
+use lib.Seq.{take-all, take-add, take-take, take-append-le, drop-append-add, drop-drop, length-take-le, sets, sets-eq, slice, slice-cons, slice-empty}
 use Rattle.octets.specs.Laid.{laid}
 
 -- what fits is laid whole

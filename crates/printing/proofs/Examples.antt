@@ -1,10 +1,9 @@
 -- The lines of trees by example. Assumes nothing.
 use mathlib.Core.Path.{_≡_, refl}
-use mathlib.Core.List.{List, [], _∷_}
-use Prim.Native.Nat.{ℕ}
+use mathlib.Core.List.{[], _∷_}
 use Rattle.octets.specs.Runs.{run}
 use Rattle.folding.specs.Strict.{units, foldedUnits}
-use Rattle.tables.specs.Trees.{Parameter, Property, Trees, none, tree, absent, present}
+use Rattle.tables.specs.Trees.{Property, none, tree, absent, present}
 use Rattle.printing.specs.Lines.{parametersText, propertyLines, written}
 
 -- K;P;Q=a;R="b,c":v

@@ -16,7 +16,7 @@ use Rattle.folding.specs.Strict.{first, units, foldedUnits, leftAfter}
 use Rattle.folding.proofs.Strict.{units-append, fold-append, left-append, fold-fits, left-fits}
 use Rattle.tables.specs.Rows.{parameterSize, parameterAt}
 use Rattle.tables.specs.Trees.{present, parameterOf}
-use Rattle.tables.specs.Fronts.{front, belongs, ownRun, ownParameters, ownProperty}
+use Rattle.tables.specs.Fronts.{front, belongs, ownParameters, ownProperty}
 use Rattle.tables.specs.Lent.{parametersIn}
 use Rattle.tables.specs.declared.PropertyRow.{PropertyRow}
 use Rattle.tables.specs.declared.ParameterRow.{ParameterRow}

@@ -9,11 +9,11 @@ use native.Mathlib.Omega.{arith}
 use lib.ListN.{length, getD, take, drop, length-take, length-drop, take-append-drop}
 use lib.Seq.{drop-cons, take-add, take-all, drop-drop, getD-drop, getD-take}
 use lib.Dec.{eqb, leb, ltb}
-use borrow.Author.Tests.{ltb-true, ltb-false, leb-true, leb-false, eqb-true, eqb-false, ne-eqb}
+use borrow.Author.Tests.{ltb-true, ltb-false, leb-true, leb-false, eqb-true, eqb-false}
 use Rattle.octets.specs.Choice.{pick}
 use Rattle.tables.specs.Rows.{noParent, componentAt}
 use Rattle.tables.specs.Fronts.{front}
-use Rattle.tables.specs.Trees.{Trees, none, gather, childrenOf, forest, grown, treesOf}
+use Rattle.tables.specs.Trees.{Trees, none, gather, childrenOf, forest, grown}
 use Rattle.tables.specs.declared.ComponentRow.{ComponentRow}
 use Rattle.tables.specs.declared.PropertyRow.{PropertyRow}
 use Rattle.tables.specs.declared.ParameterRow.{ParameterRow}

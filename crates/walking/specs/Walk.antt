@@ -1,7 +1,7 @@
 -- Where the rows of a component stand, so that they are found without a search of all rows.
 -- Serves laws and inner contracts: what the rows are is said in `tables` (Trees), by a plain search.
 -- Assumes nothing.
-use Prim.Native.Nat.{ℕ, zero, suc, _+_, _-_, _/_, _≤_, _<_}
+use Prim.Native.Nat.{ℕ, zero, suc, _+_, _/_, _≤_, _<_}
 use mathlib.Core.Path.{_≡_}
 use mathlib.Core.Bool.{Bool, not, _&&_}
 use mathlib.Core.List.{List, [], _∷_}

@@ -8,7 +8,6 @@ use native.Mathlib.Omega.{arith}
 use lib.ListN.{length, drop}
 use lib.Dec.{leb}
 use borrow.Author.Tests.{lt-ltb, le-ltb, leb-true, ne-eqb, not-true, not-false}
-use Rattle.octets.specs.Choice.{pick}
 use Rattle.octets.specs.Bytes.{cr, lf, quote, capital, common, keyByte, other}
 use Rattle.octets.specs.Runs.{only}
 use Rattle.octets.specs.Keys.{reserved}

@@ -1,4 +1,4 @@
-use mathlib.Core.Path.{_≡_, sym}
+use mathlib.Core.Path.{sym}
 use Rattle.octets.proofs.Lists.{lent}
 use mathlib.Core.Bool.{true, false}
 use Rattle.lines.proofs.Rule.{begun}

@@ -1,8 +1,8 @@
 -- `lines::line_at`: by the LF that ends it, and the CR before that.
-use Prim.Native.Nat.{_≤_, _<_, _+_, _-_}
-use mathlib.Core.Path.{_≡_, sym, _∙_}
+use Prim.Native.Nat.{_-_}
+use mathlib.Core.Path.{sym, _∙_}
 use native.Mathlib.Omega.{arith}
-use lib.ListN.{length, getD, drop, length-drop}
+use lib.ListN.{drop, length-drop}
 use Rattle.lines.specs.Split.{toBreak}
 use Rattle.lines.proofs.Split.{no-break, empty-line, cr-break, lf-break, before-break}
 use borrow.Author.Needs.{needs}

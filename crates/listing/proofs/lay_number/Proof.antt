@@ -3,7 +3,7 @@ use mathlib.Core.Path.{refl}
 use mathlib.Core.List.{[], _∷_}
 use native.Mathlib.Omega.{arith}
 use Rattle.octets.proofs.Writing.{start, more, end}
-use Rattle.listing.specs.Texts.{field, digits, decimal}
+use Rattle.listing.specs.Texts.{field, decimal}
 use borrow.Author.Needs.{needs}
 use Rattle.listing.proofs.lay_number.Statement.{statement}
 use Rattle.listing.proofs.lay_number.Tie as tie

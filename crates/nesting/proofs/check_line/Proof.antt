@@ -1,6 +1,6 @@
 -- `nesting::check_line`: by the kind of the line, how many are open, and the innermost of them.
 -- Assumes nothing.
-use mathlib.Core.Path.{_≡_, refl, sym, ap, _∙_}
+use mathlib.Core.Path.{sym, ap, _∙_}
 use mathlib.Core.Bool.{Bool}
 use Rattle.octets.specs.Choice.{pick}
 use Rattle.nesting.specs.declared.Check.{Check}

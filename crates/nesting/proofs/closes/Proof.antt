@@ -1,5 +1,4 @@
 -- `nesting::closes`: the two views hold the same bytes.
-use mathlib.Core.Path.{_≡_, sym, ap, _∙_}
 use borrow.Author.Needs.{needs}
 use Rattle.nesting.proofs.closes.Statement.{statement}
 use Rattle.nesting.proofs.closes.Tie as tie

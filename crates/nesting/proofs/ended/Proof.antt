@@ -1,6 +1,4 @@
 -- `nesting::ended`: by what is open, and whether there is a component.
-use mathlib.Core.Path.{refl}
-use native.Mathlib.Omega.{arith}
 use borrow.Author.Tests.{eq-eqb, ne-eqb}
 use Rattle.nesting.proofs.ended.Statement.{statement}
 use Rattle.nesting.proofs.ended.Tie as tie

@@ -1,7 +1,6 @@
 -- `nesting::parameter_row`: by whether a value is there, which lies within what the parameter uses.
 -- Assumes nothing.
 use Prim.Native.Nat.{_≤_, _+_}
-use mathlib.Core.Path.{_≡_, refl, sym}
 use native.Mathlib.Omega.{arith}
 use borrow.Author.Needs.{needs}
 use Rattle.nesting.proofs.parameter_row.Statement.{statement}

@@ -1,6 +1,6 @@
 -- `octets::find_near`: the bytes passed and the run from here on make the whole run.
-use Prim.Native.Nat.{ℕ, _≤_, _<_, _+_, _-_}
-use mathlib.Core.Path.{_≡_, refl, sym, ap, _∙_}
+use Prim.Native.Nat.{_≤_, _+_, _-_}
+use mathlib.Core.Path.{_≡_, refl}
 use lib.ListN.{length, drop}
 use native.Mathlib.Omega.{arith}
 use Rattle.octets.specs.Bytes.{other}

@@ -1,6 +1,6 @@
 -- `octets::is_reserved`: neither word need be looked for where the first byte is of neither.
 use borrow.Author.Needs.{needs}
-use mathlib.Core.Path.{_≡_, sym, _∙_}
+use mathlib.Core.Path.{sym, _∙_}
 use borrow.Author.Tests.{not-true}
 use Rattle.octets.proofs.Keys.{not-reserved}
 use Rattle.octets.proofs.is_reserved.Statement.{statement}

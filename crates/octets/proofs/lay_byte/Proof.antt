@@ -1,6 +1,5 @@
 -- `octets::lay_byte`: the byte is stored where there is room for it, and counted.
 use borrow.Author.Needs.{needs}
-use native.Mathlib.Omega.{arith}
 use Rattle.octets.proofs.Writing.{one-laid, none-laid}
 use Rattle.octets.proofs.lay_byte.Statement.{statement}
 use Rattle.octets.proofs.lay_byte.Tie as tie

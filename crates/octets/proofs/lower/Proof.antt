@@ -1,7 +1,6 @@
 -- `octets::lower`: a capital is moved by 32, any other byte stays.
 use native.Mathlib.Omega.{arith}
 use borrow.Author.Tests.{lt-leb, le-leb}
-use mathlib.Core.Path.{refl}
 use borrow.Author.Needs.{needs}
 use Rattle.octets.proofs.lower.Statement.{statement}
 use Rattle.octets.proofs.lower.Tie as tie

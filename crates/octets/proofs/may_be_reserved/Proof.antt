@@ -1,5 +1,4 @@
 -- `octets::may_be_reserved`: an empty line has no first byte, and 0 is none of the four.
-use mathlib.Core.Path.{refl}
 use Prim.Native.Nat.{_≤_}
 use lib.ListN.{length, List·getD-eq-default}
 use native.Mathlib.Omega.{arith}

@@ -1,10 +1,9 @@
 -- `octets::put_each`: the bytes stored so far, and those to come, are the bytes that fit.
-use Prim.Native.Nat.{ℕ, _≤_, _<_, _+_, _-_}
-use mathlib.Core.Path.{_≡_, refl, sym, ap, _∙_}
-use lib.ListN.{length, getD, drop}
-use lib.Seq.{sets, slice, slice-cons, slice-empty}
+use Prim.Native.Nat.{_≤_, _-_}
+use mathlib.Core.Path.{_≡_, refl, _∙_}
+use lib.ListN.{length}
+use lib.Seq.{sets, slice}
 use lib.ListN.{length-set, take}
-use native.Mathlib.Numerals.{add-one}
 use Rattle.octets.proofs.Laid.{store, all-stored}
 use native.Mathlib.Omega.{arith}
 use Rattle.octets.proofs.put_each.Statement.{statement}

@@ -1,9 +1,8 @@
 -- `octets::put_eights`: of the bytes the first i are laid.
-use borrow.Author.Needs.{needs}
 use native.Mathlib.Omega.{arith}
 use mathlib.Core.Path.{_≡_, refl, ap, _∙_}
-use mathlib.Core.List.{List, _++_}
-use Prim.Native.Nat.{ℕ, _+_, _-_, _≤_}
+use mathlib.Core.List.{_++_}
+use Prim.Native.Nat.{_+_, _-_, _≤_}
 use lib.ListN.{length, take, drop}
 use Rattle.octets.proofs.Laid.{covered, covered-length}
 use Rattle.octets.proofs.put_eights.Statement.{statement}

@@ -1,8 +1,8 @@
 use Rattle.octets.proofs.Words.{same-turn, same-ended, unlike}
 use borrow.Author.Tests.{eq-eqb, ne-eqb}
 -- `octets::same_bytes`: what is left compares as the whole does.
-use Prim.Native.Nat.{ℕ, _≤_, _<_, _+_, _-_}
-use mathlib.Core.Path.{_≡_, refl, sym, ap, _∙_}
+use Prim.Native.Nat.{_≤_, _-_}
+use mathlib.Core.Path.{_≡_, refl, sym, _∙_}
 use lib.ListN.{length, getD, drop}
 use Rattle.octets.specs.Words.{sameBytes}
 use native.Mathlib.Omega.{arith}

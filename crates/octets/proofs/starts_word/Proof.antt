@@ -1,13 +1,10 @@
 use Rattle.octets.proofs.Words.{starts-on, starts-off}
-use Rattle.octets.proofs.Words.{starts-turn, starts-ended, starts-short}
-use borrow.Author.Tests.{eq-eqb, ne-eqb}
-use Rattle.octets.specs.Bytes.{lowered}
+use Rattle.octets.proofs.Words.{starts-ended, starts-short}
 use mathlib.Core.Bool.{false}
-use lib.Dec.{eqb}
 -- `octets::starts_word`: what is left compares as the whole does.
-use Prim.Native.Nat.{ℕ, _≤_, _<_, _+_, _-_}
-use mathlib.Core.Path.{_≡_, refl, sym, ap, _∙_}
-use lib.ListN.{length, getD, drop}
+use Prim.Native.Nat.{_≤_, _+_, _-_}
+use mathlib.Core.Path.{_≡_, refl, sym, _∙_}
+use lib.ListN.{length, drop}
 use Rattle.octets.specs.Words.{startsWord}
 use native.Mathlib.Omega.{arith}
 use Rattle.octets.proofs.starts_word.Statement.{statement}

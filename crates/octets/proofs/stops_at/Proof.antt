@@ -1,8 +1,7 @@
 use Rattle.octets.proofs.Lists.{getD-inside}
 use native.Mathlib.Omega.{arith}
 -- `octets::stops_at`: past the end of the line counts as a colon.
-use mathlib.Core.Path.{refl, sym}
-use lib.ListN.{List·getD-eq-default, getD}
+use lib.ListN.{List·getD-eq-default}
 use borrow.Author.Needs.{needs}
 use Rattle.octets.proofs.stops_at.Statement.{statement}
 use Rattle.octets.proofs.stops_at.Tie as tie

@@ -1,5 +1,4 @@
 -- `octets::view`: inside it is the part at its start, outside it is the empty part at the front. Assumes nothing.
-use mathlib.Core.Path.{refl}
 use native.Mathlib.Omega.{arith}
 use borrow.Author.Tests.{lt-leb, le-leb}
 use Prim.Native.Nat.{_+_}

@@ -1,9 +1,7 @@
 -- `printing::has_parameters`: the rows are over, or the row belongs to another property.
 use native.Mathlib.Omega.{arith}
 use borrow.Author.Needs.{needs}
-use mathlib.Core.Path.{_≡_, sym, ap, _∙_}
 use lib.ListN.{drop}
-use borrow.Author.Tests.{eqb-false, ne-eqb}
 use Rattle.tables.specs.Rows.{parameterSize, parameterAt}
 use Rattle.tables.specs.Lent.{parametersIn}
 use Rattle.tables.specs.Fronts.{belongs}

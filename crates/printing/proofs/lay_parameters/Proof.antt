@@ -1,6 +1,5 @@
 -- `printing::lay_parameters`: those before the row are laid, and the others are to come.
 use native.Mathlib.Omega.{arith}
-use lib.ListN.{length}
 use Prim.Native.Nat.{_-_}
 use borrow.Author.Needs.{needs}
 use Rattle.printing.proofs.Pens.{Listing, begin, turn, other, over}

@@ -1,5 +1,4 @@
 -- `reading::have_room`: each count beside its rows.
-use mathlib.Core.Path.{_≡_, sym, ap, _∙_}
 use borrow.Author.Needs.{needs}
 use Rattle.reading.proofs.have_room.Statement.{statement}
 use Rattle.reading.proofs.have_room.Tie as tie

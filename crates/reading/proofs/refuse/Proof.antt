@@ -1,5 +1,5 @@
 -- `reading::refuse`: a refusal has no counts.
-use mathlib.Core.Path.{_≡_, sym, ap, _∙_}
+use mathlib.Core.Path.{_∙_}
 use borrow.Author.Needs.{needs}
 use Rattle.reading.proofs.refuse.Statement.{statement}
 use Rattle.reading.proofs.refuse.Tie as tie

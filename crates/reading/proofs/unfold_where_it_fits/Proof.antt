@@ -1,5 +1,5 @@
 -- `reading::unfold_where_it_fits`: what is never longer than the feed fits where the feed does.
-use mathlib.Core.Path.{_≡_, sym, ap, _∙_}
+use mathlib.Core.Path.{_∙_}
 use native.Mathlib.Omega.{arith}
 use Rattle.unfolding.specs.Unfold.{unfolded}
 use Rattle.unfolding.proofs.Laws.{length-unfolded}

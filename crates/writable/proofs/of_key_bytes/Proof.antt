@@ -1,6 +1,6 @@
 -- `writable::of_key_bytes`: seen at a look, or the run of key bytes is the whole.
 use borrow.Author.Needs.{needs}
-use mathlib.Core.Path.{sym, ap, _∙_}
+use mathlib.Core.Path.{sym, ap}
 use Rattle.octets.specs.Bytes.{keyByte}
 use Rattle.octets.specs.Runs.{only}
 use Rattle.writable.proofs.of_key_bytes.Statement.{statement}

@@ -1,8 +1,6 @@
 -- `writing::write_components`: the two rules, one after the other, and then the trees.
 use borrow.Author.Needs.{needs}
-use mathlib.Core.Path.{_≡_, refl, sym, ap, _∙_}
-use mathlib.Core.List.{List}
-use Prim.Native.Nat.{ℕ}
+use mathlib.Core.Path.{sym, ap, _∙_}
 use lib.ListN.{length}
 use Rattle.octets.specs.Answers.{outAfter}
 use Rattle.octets.specs.declared.Output.{Output}

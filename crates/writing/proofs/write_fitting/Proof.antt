@@ -1,8 +1,6 @@
 -- `writing::write_fitting`: too long, a refusal for room, or the trees.
 use borrow.Author.Needs.{needs}
-use mathlib.Core.Path.{_≡_, refl, sym, _∙_}
-use mathlib.Core.List.{List}
-use Prim.Native.Nat.{ℕ}
+use mathlib.Core.Path.{refl, sym, _∙_}
 use lib.ListN.{length}
 use Rattle.octets.proofs.Answers.{kept, written}
 use Rattle.octets.proofs.Writing.{from-front}

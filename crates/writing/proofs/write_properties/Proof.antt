@@ -1,11 +1,11 @@
 -- `writing::write_properties`: of the window's rows those of the component are laid, and these are all that it has.
 use borrow.Author.Needs.{needs}
 use native.Mathlib.Omega.{arith}
-use mathlib.Core.Path.{_≡_, sym, ap, _∙_}
-use mathlib.Core.List.{List, [], _∷_}
+use mathlib.Core.Path.{sym, ap, _∙_}
+use mathlib.Core.List.{[], _∷_}
 use mathlib.Core.Logic.{⊎-elim}
-use Prim.Native.Nat.{ℕ, _-_, _≤_, _<_, _/_, _+_}
-use lib.ListN.{length, drop}
+use Prim.Native.Nat.{_-_, _≤_, _<_, _/_}
+use lib.ListN.{length}
 use Rattle.octets.specs.Laid.{most}
 use Rattle.octets.proofs.Writing.{start, from-as}
 use Rattle.tables.specs.Rows.{propertySize, propertyAt}

@@ -1,9 +1,7 @@
 -- `writing::write_property`: the parameters that are laid are all that the property has.
 use borrow.Author.Needs.{needs}
-use mathlib.Core.Path.{_≡_, ap, _∙_}
+use mathlib.Core.Path.{ap, _∙_}
 use native.Mathlib.Omega.{arith}
-use Prim.Native.Nat.{ℕ}
-use mathlib.Core.List.{List}
 use Rattle.octets.proofs.Writing.{from-as}
 use Rattle.tables.specs.Rows.{propertyAt}
 use Rattle.tables.specs.Lent.{parametersIn}

@@ -1,6 +1,6 @@
 -- `octets::eights::marks_of`: what is asked of each byte, asked of eight as one number.
 use Prim.Native.Nat.{ℕ, _*_}
-use mathlib.Core.Path.{_≡_, ap, _∙_}
+use mathlib.Core.Path.{ap, _∙_}
 use native.Mathlib.Omega.{arith}
 use lib.Bits.{bitXor, and-le-r}
 use borrow.Author.Needs.{needs}
