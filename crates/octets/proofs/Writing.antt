@@ -2,7 +2,7 @@
 use mathlib.Core.Path.{_≡_, refl, sym, ap, _∙_}
 use mathlib.Core.Bool.{Bool, true, false}
 use mathlib.Core.List.{List, [], _∷_, _++_, append-nil, append-assoc}
-use Prim.Native.Nat.{ℕ, _+_, _-_, _≤_, _<_, min}
+use Prim.Native.Nat.{ℕ, _+_, _-_, _≤_, _<_, min, zero-le}
 use native.Mathlib.Nat.{zero-add, min-eq-left, min-eq-right, le-of-lt}
 use native.Mathlib.Numerals.{add-one}
 use native.Mathlib.Omega.{arith}
@@ -21,6 +21,10 @@ past at xs old h = rw (take-all at old h, drop-of-length-le old h) (by xs)
     by : (xs : List ℕ) → old ++ laid xs [] ≡ old
     by [] = append-nil old
     by (x ∷ xs) = append-nil old
+
+-- without a buffer bytes are counted only
+pub counts : (at : ℕ) (xs : List ℕ) {n : ℕ} → n ≡ counted (at + length xs) → Lays at xs [] [] n
+counts at xs e = record { count = e; is = sym (past at xs [] zero-le) }
 
 -- one byte: stored where there is room, and nowhere else
 pub none-laid : (at b : ℕ) (old : List ℕ) → length old ≤ at → old ≡ laidFrom at (b ∷ []) old

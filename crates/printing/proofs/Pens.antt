@@ -1,17 +1,17 @@
 -- Laws of a line that is laid piece by piece: pieces in turn, the parameters of a property in turn, and the CRLF behind it. Assumes nothing.
 use mathlib.Core.Path.{_≡_, refl, sym, _∙_}
-use mathlib.Core.Bool.{Bool, true, false, _&&_}
+use mathlib.Core.Bool.{true}
 use mathlib.Core.List.{List, [], _∷_, _++_, append-assoc, append-nil}
-use Prim.Native.Nat.{ℕ, suc, _+_, _-_, _≤_, _<_, _/_}
+use Prim.Native.Nat.{ℕ, suc, _+_, _-_, _≤_, _<_, _/_, zero-le}
 use native.Mathlib.Numerals.{add-one}
 use native.Mathlib.Omega.{arith}
 use lib.ListN.{length, getD, drop}
 use lib.Seq.{drop-cons, drop-drop, take-add}
 use borrow.Author.Tests.{eq-eqb, ne-eqb, le-leb}
-use Rattle.octets.specs.Laid.{most, Lays}
+use Rattle.octets.specs.Laid.{most, counted, Lays}
 use Rattle.octets.specs.Bytes.{cr, lf, colon, semicolon}
 use Rattle.octets.specs.Views.{viewed}
-use Rattle.octets.proofs.Writing.{length-from, both, from-as, stays}
+use Rattle.octets.proofs.Writing.{length-from, both, from-as, from-front, counts, stays}
 use Rattle.folding.specs.Strict.{first, units, foldedUnits, leftAfter}
 use Rattle.folding.proofs.Strict.{units-append, fold-append, left-append, fold-fits, left-fits}
 use Rattle.tables.specs.Rows.{parameterSize, parameterAt}
@@ -69,10 +69,16 @@ pub bare : (text : List ℕ) (p : PropertyRow) (number first : ℕ) (rows : List
 unfolding parametersText
 bare text p number first rows none e = e ∙ rw (run-none (belongs number) (drop first rows) none)
 
--- two tests at once
-pub both-true : (a b : Bool) → a && b ≡ true → (a ≡ true) × (b ≡ true)
-both-true true b e = (refl, e)
-both-true false b e = let z : _≡_ {A = ℕ} 0 1 = cc in absurd (omega arith)
+-- ---- without a buffer
+
+-- a piece is counted as it is laid
+pub alone : {pen next : Pen} {piece old new : List ℕ} → Penned pen piece old new next → Penned pen piece [] [] next
+alone {pen} {piece = piece} p = record { left = p .left; lays = counts (pen .at) (foldedUnits (pen .left) (units piece)) (p .lays .count) }
+
+-- and so is CRLF
+pub closed-count : {next : Pen} {line : List ℕ} {n : ℕ} → Penned (record { left = first; at = 0 }) line [] [] next → n ≡ counted (next .at + 2)
+    → n ≡ counted (length (closedLine line))
+closed-count {next} p e = from-front (both (p .lays) (counts (next .at) (cr ∷ lf ∷ []) e) zero-le)
 
 -- two parts of a text that stand one behind the other, with a byte between them, are one part
 pub view-joins : (text : List ℕ) (start len more b : ℕ) → start + len + 1 + more ≤ length text → getD text (start + len) 0 ≡ b

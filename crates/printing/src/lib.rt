@@ -3,14 +3,14 @@ ghost use mathlib.Core.Path.{_≡_};
 ghost use mathlib.Core.Bool.{true, false};
 ghost use mathlib.Core.List.{[], _∷_, _++_};
 ghost use Prim.Native.Nat.{_+_};
-ghost use lib.ListN.{drop};
+ghost use lib.ListN.{length, drop};
 ghost use Rattle.octets.specs.Bytes.{cr, lf, colon};
-ghost use Rattle.octets.specs.Laid.{Lays};
+ghost use Rattle.octets.specs.Laid.{counted, Lays};
 ghost use Rattle.octets.specs.Views.{viewed};
 ghost use Rattle.tables.specs.Trees.{present, parameterOf};
 ghost use Rattle.tables.specs.Lent.{parametersIn};
 ghost use Rattle.tables.specs.Fronts.{front, belongs, ownParameters};
-ghost use Rattle.printing.specs.Lines.{closedLine, valueText, parameterText, parametersText};
+ghost use Rattle.printing.specs.Lines.{closedLine, beginLine, endLine, valueText, parameterText, parametersText};
 ghost use Rattle.printing.specs.Pens.{Penned, behindRun, printedLine};
 use folding::Column;
 use tables::ParameterRow;
@@ -214,4 +214,110 @@ pub fn print_property(
         length: lay_end(out, end.at),
         next: listed.next,
     }
+}
+
+// Counts a piece of a line as `lay_piece` lays it, without a buffer.
+fn count_piece(pen: Pen, piece: &[u8]) -> Pen
+    ensures { λ r. ⌜ Penned pen (now (piece .entry)) [] [] r ⌝ }
+{
+    if piece.len() <= pen.left {
+        return Pen {
+            left: pen.left - piece.len(),
+            at: octets::count_on(pen.at, piece.len()),
+        };
+    }
+    let mut none = [0u8; 0];
+    lay_piece(pen, piece, &mut none)
+}
+
+// Counts a value that is present.
+fn count_value(pen: Pen, part: &[u8]) -> Pen
+    ensures { λ r. ⌜ Penned pen (valueText (present (now (part .entry)))) [] [] r ⌝ }
+{
+    if !quoting::wraps(part) {
+        let marked = count_piece(pen, b"=");
+        return count_piece(marked, part);
+    }
+    let opened = count_piece(pen, b"=\"");
+    let end = count_piece(opened, part);
+    count_piece(end, b"\"")
+}
+
+// Counts a parameter.
+fn count_parameter(pen: Pen, text: &[u8], row: ParameterRow) -> Pen
+    ensures { λ r. ⌜ Penned pen (parameterText (parameterOf (now (text .entry)) row)) [] [] r ⌝ }
+{
+    let key = octets::view(text, row.key_start as usize, row.key_len as usize);
+    let marked = count_piece(pen, b";");
+    let named = count_piece(marked, key);
+    if row.present == 0 {
+        return named;
+    }
+    let value = octets::view(text, row.value_start as usize, row.value_len as usize);
+    count_value(named, value)
+}
+
+// Counts the parameters of a property, whose rows are the run that begins at `first`.
+fn count_parameters(
+    pen: Pen,
+    text: &[u8],
+    parameters: &[u32],
+    number: usize,
+    first: usize,
+) -> Listed
+    ensures { λ r. ⌜ Penned pen (parametersText (ownParameters (now (text .entry)) number first (parametersIn (now (parameters .entry))))) [] [] (r .pen) ⌝ }
+    ensures { λ r. ⌜ r .next ≡ behindRun number first (parametersIn (now (parameters .entry))) ⌝ }
+{
+    let rows = tables::parameter_rows(parameters);
+    let mut pen = pen;
+    let mut next = first;
+    while next < rows {
+        let row = tables::parameter_at(parameters, next);
+        if row.property as usize != number {
+            return Listed { pen, next };
+        }
+        pen = count_parameter(pen, text, row);
+        next += 1;
+    }
+    Listed { pen, next }
+}
+
+// How long the line of a property row is, and the row behind its parameters.
+pub fn count_property(
+    text: &[u8],
+    p: PropertyRow,
+    number: usize,
+    parameters: &[u32],
+    first: usize,
+) -> Printed
+    ensures { λ r. ⌜ r .length ≡ counted (length (printedLine (now (text .entry)) p number first (parametersIn (now (parameters .entry))))) ⌝ }
+    ensures { λ r. ⌜ r .next ≡ behindRun number first (parametersIn (now (parameters .entry))) ⌝ }
+{
+    let key = octets::view(text, p.key_start as usize, p.key_len as usize);
+    let value = octets::view(text, p.value_start as usize, p.value_len as usize);
+    let named = count_piece(Pen::START, key);
+    let listed = count_parameters(named, text, parameters, number, first);
+    let marked = count_piece(listed.pen, b":");
+    let end = count_piece(marked, value);
+    Printed {
+        length: octets::count_on(end.at, 2),
+        next: listed.next,
+    }
+}
+
+// How long the line that opens or closes a component is.
+fn count_mark(mark: &[u8], name: &[u8]) -> usize
+    ensures { λ r. ⌜ r ≡ counted (length (closedLine (now (mark .entry) ++ now (name .entry)))) ⌝ }
+{
+    let marked = count_piece(Pen::START, mark);
+    let end = count_piece(marked, name);
+    octets::count_on(end.at, 2)
+}
+
+// How long the lines BEGIN and END of a component are.
+pub fn count_marks(name: &[u8]) -> usize
+    ensures { λ r. ⌜ r ≡ counted (length (closedLine (beginLine (now (name .entry)))) + length (closedLine (endLine (now (name .entry))))) ⌝ }
+{
+    let opened = count_mark(b"BEGIN:", name);
+    octets::count_on(opened, count_mark(b"END:", name))
 }

@@ -13,6 +13,7 @@ use Rattle.octets.specs.Answers.{deepest}
 use Rattle.octets.proofs.Bools.{both}
 use Rattle.tables.specs.Rows.{noParent}
 use Rattle.tables.specs.Sizes.{componentCount, propertyCount, heldCount, parameterCount}
+use Rattle.tables.specs.Lent.{nameIn}
 use Rattle.tables.specs.TableRule.{inside, propertyFits, risingIn, presenceFits, parameterFits, brokenComponent, brokenProperty, brokenParameter, broken}
 use Rattle.tables.specs.Fronts.{belongs}
 use Rattle.tables.specs.Trees.{Property, Trees, none, tree, gather, parameterOf, parametersOf, propertyOf, propertiesOf, childrenOf, grown, forest, treeAt, treesOf}
@@ -23,37 +24,38 @@ use Rattle.tables.specs.declared.Found.the-variants.{Nothing}
 use Rattle.tables.proofs.Nested.{depthOf, Nested, rows-nested}
 use Rattle.tables.proofs.Rule.{seenAt, all-fit, meets}
 use Rattle.walking.specs.Walk.{endOf, ownedBefore, ownedWithin, ownedBy, windowFirst, windowCount, tally}
+use Rattle.walking.specs.Totals.{total}
 use Rattle.walking.proofs.Tallies.{front-all, front-none, none as none-of}
 use Rattle.walking.proofs.Windows.{three}
-use Rattle.walking.proofs.Sums.{total, total-one, total-split, total-same, weightIn, so-many, by-owners, nothing-lost, gathered}
+use Rattle.walking.proofs.Sums.{total-one, total-split, total-same, weightIn, so-many, by-owners, nothing-lost, gathered}
 use Rattle.walking.proofs.Siblings.{Siblings, rowsUpTo, end-later, end-within, subtree-deeper, next-inside, next-siblings, sibling-first, tops, children, children-trees, top-trees}
 
 -- ---- counts of trees
 
--- a count of trees that adds up what the properties of each component weigh
-record Weighs (count : Trees → ℕ) (weigh : List Property → ℕ) : Type 0 where
-  nothing : count none ≡ 0
-  first : (name : List ℕ) (properties : List Property) (children rest : Trees)
-      → count (tree name properties children rest) ≡ weigh properties + count children + count rest
+-- a count of trees that adds up what the name and the properties of each component weigh
+pub record Weighs (count : Trees → ℕ) (weigh : List ℕ → List Property → ℕ) : Type 0 where
+  pub nothing : count none ≡ 0
+  pub first : (name : List ℕ) (properties : List Property) (children rest : Trees)
+      → count (tree name properties children rest) ≡ weigh name properties + count children + count rest
 
-by-component : Weighs componentCount (λ properties. 1)
+by-component : Weighs componentCount (λ name properties. 1)
 unfolding componentCount
 by-component = record { nothing = refl; first = λ name properties children rest. refl }
 
-by-property : Weighs propertyCount length
+by-property : Weighs propertyCount (λ name. length)
 unfolding propertyCount
 by-property = record { nothing = refl; first = λ name properties children rest. refl }
 
-by-parameter : Weighs parameterCount heldCount
+by-parameter : Weighs parameterCount (λ name. heldCount)
 unfolding parameterCount
 by-parameter = record { nothing = refl; first = λ name properties children rest. refl }
 
-module _ {count : Trees → ℕ} {weigh : List Property → ℕ} (w : Weighs count weigh)
+module _ {count : Trees → ℕ} {weigh : List ℕ → List Property → ℕ} (w : Weighs count weigh)
     (text : List ℕ) (components : List ComponentRow) (properties : List PropertyRow) (parameters : List ParameterRow)
     (textLength : ℕ) (fits : brokenComponent textLength 0 [] components ≡ Nothing) where
   -- what a component row weighs, without its children
-  abbrev weight : ℕ → ℕ
-  weight row = weigh (propertiesOf text properties parameters row)
+  abbrev pub weight : ℕ → ℕ
+  weight row = weigh (nameIn text components row) (propertiesOf text properties parameters row)
 
   nested : (row : ℕ) → row < length components → Nested components row
   nested = rows-nested components textLength fits
@@ -144,7 +146,7 @@ module _ {count : Trees → ℕ} {weigh : List Property → ℕ} (w : Weighs cou
       )
 
   -- and those of a table weigh what its rows weigh
-  all-weigh : count (treesOf text components properties parameters) ≡ total weight 0 (length components)
+  pub all-weigh : count (treesOf text components properties parameters) ≡ total weight 0 (length components)
   all-weigh =
       let e : length components - 0 ≡ length components = omega arith in
       ap count (top-trees components nested text properties parameters 63)
@@ -159,18 +161,18 @@ module _ (text : List ℕ) (properties : List PropertyRow) (parameters : List Pa
   its-properties : (component : ℕ) → length (propertiesOf text properties parameters component) ≡ weightIn (ownedBy component) (λ row. 1) 0 properties
   its-properties component =
       gathered (λ (p : PropertyRow). p .owner) (λ row. 1) (λ row p rest. propertyOf text parameters row p ∷ rest) [] length refl
-      (λ row p rest. omega arith) component 0 properties
+      component 0 properties (λ i d rest h. omega arith)
 
   its-held : (component : ℕ) → heldCount (propertiesOf text properties parameters component) ≡ weightIn (ownedBy component) parameterWeight 0 properties
   unfolding heldCount
   its-held component =
       gathered (λ (p : PropertyRow). p .owner) parameterWeight (λ row p rest. propertyOf text parameters row p ∷ rest) [] heldCount refl
-      (λ row p rest. refl) component 0 properties
+      component 0 properties (λ i d rest h. refl)
 
   its-parameters : (property : ℕ) → parameterWeight property ≡ weightIn (belongs property) (λ row. 1) 0 parameters
   its-parameters property =
       gathered (λ (p : ParameterRow). p .property) (λ row. 1) (λ row p rest. parameterOf text p ∷ rest) [] length refl
-      (λ row p rest. omega arith) property 0 parameters
+      property 0 parameters (λ i d rest h. omega arith)
 
 -- ---- the tree of a row
 
@@ -219,7 +221,7 @@ module _ (text : List ℕ) (components : List ComponentRow) (properties : List P
 -- ---- whole tables
 
 -- owners are in range
-owners-there : (textLength n row : ℕ) (properties : List PropertyRow) → brokenProperty textLength n row properties ≡ Nothing
+pub owners-there : (textLength n row : ℕ) (properties : List PropertyRow) → brokenProperty textLength n row properties ≡ Nothing
     → (i : ℕ) (d : PropertyRow) → i < length properties → getD properties i d .owner < n
 owners-there textLength n row properties fits i d h =
     let p = getD properties i d in

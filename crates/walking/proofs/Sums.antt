@@ -11,13 +11,9 @@ use borrow.Author.Tests.{eqb-true, eqb-false, leb-true, leb-false, le-leb, lt-le
 use Rattle.octets.specs.Choice.{pick}
 use Rattle.tables.specs.Trees.{gather}
 use Rattle.walking.specs.Walk.{tally}
+use Rattle.walking.specs.Totals.{total}
 
 -- ---- sums over rows
-
--- what so many rows from `from` on weigh together
-unfoldable pub total : (ℕ → ℕ) → ℕ → ℕ → ℕ
-total weight from zero = 0
-total weight from (suc n) = weight from + total weight (from + 1) n
 
 total-parts : (weight : ℕ → ℕ) (from m n : ℕ) → total weight from (m + n) ≡ total weight from m + total weight (from + m) n
 unfolding total
@@ -28,6 +24,11 @@ total-parts weight from (suc m) n =
     let e : from + suc m ≡ from + 1 + m = omega arith in
     let f : suc m + n ≡ suc (m + n) = omega arith in
     rw (f, e) (omega (arith, total-parts weight (from + 1) m n))
+
+-- the first rows, and one more
+pub total-next : (weight : ℕ → ℕ) (n : ℕ) → total weight 0 (n + 1) ≡ total weight 0 n + weight n
+unfolding total
+total-next weight n = rw (total-parts weight 0 n 1, zero-add n) (omega arith)
 
 -- a row, those behind it up to the middle, and those behind that
 pub total-split : (weight : ℕ → ℕ) (from mid to : ℕ) → from < mid → mid ≤ to
@@ -64,7 +65,7 @@ unfolding total
 total-same f g same from zero = refl
 total-same f g same from (suc n) = omega (arith, same from, total-same f g same (from + 1) n)
 
-total-sum : (f g : ℕ → ℕ) (from n : ℕ) → total (λ row. f row + g row) from n ≡ total f from n + total g from n
+pub total-sum : (f g : ℕ → ℕ) (from n : ℕ) → total (λ row. f row + g row) from n ≡ total f from n + total g from n
 unfolding total
 total-sum f g from zero = refl
 total-sum f g from (suc n) = omega (arith, total-sum f g (from + 1) n)
@@ -127,14 +128,20 @@ module _ {A : Type 0} (ownerOf : A → ℕ) (weight : ℕ → ℕ) where
       (λ i d h. rw (le-leb 0 (ownerOf (getD xs i d)) zero-le) (lt-ltb (ownerOf (getD xs i d)) (0 + n) (omega (arith, owned i d h))))
 
   -- what is gathered for an owner has the size that its rows weigh, if each row adds so much
-  pub gathered : {R : Type 0} (before : ℕ → A → R → R) (end : R) (size : R → ℕ) → size end ≡ 0
-      → ((row : ℕ) (x : A) (rest : R) → size (before row x rest) ≡ weight row + size rest)
-      → (owner row : ℕ) (xs : List A) → size (gather ownerOf before end owner row xs) ≡ weightIn (λ (x : A). eqb (ownerOf x) owner) weight row xs
+  pub gathered : {R : Type 0} (before : ℕ → A → R → R) (end : R) (size : R → ℕ) → size end ≡ 0 → (owner row : ℕ) (xs : List A)
+      → ((i : ℕ) (d : A) (rest : R) → i < length xs → size (before (row + i) (getD xs i d) rest) ≡ weight (row + i) + size rest)
+      → size (gather ownerOf before end owner row xs) ≡ weightIn (λ (x : A). eqb (ownerOf x) owner) weight row xs
   unfolding weightIn gather
-  gathered before end size nothing more owner row [] = nothing
-  gathered {R} before end size nothing more owner row (x ∷ xs) =
-      go (eqb (ownerOf x) owner) (gather ownerOf before end owner (row + 1) xs) (gathered before end size nothing more owner (row + 1) xs)
+  gathered before end size nothing owner row [] more = nothing
+  gathered {R} before end size nothing owner row (x ∷ xs) more =
+      go (eqb (ownerOf x) owner) (gather ownerOf before end owner (row + 1) xs) (gathered before end size nothing owner (row + 1) xs later)
     where
+      first : (rest : R) → size (before row x rest) ≡ weight row + size rest
+      first rest = let e : row + 0 ≡ row = omega arith in rw e at (more 0 x rest (suc-le-suc zero-le))
+
+      later : (i : ℕ) (d : A) (rest : R) → i < length xs → size (before (row + 1 + i) (getD xs i d) rest) ≡ weight (row + 1 + i) + size rest
+      later i d rest h = let e : row + suc i ≡ row + 1 + i = omega arith in rw e at (more (suc i) d rest (suc-le-suc h))
+
       go : (t : Bool) (rest : R) {n : ℕ} → size rest ≡ n → size (pick t (before row x rest) rest) ≡ pick t (weight row) 0 + n
-      go true rest e = omega (arith, more row x rest)
+      go true rest e = omega (arith, first rest)
       go false rest e = omega arith

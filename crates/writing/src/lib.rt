@@ -4,16 +4,19 @@ ghost use mathlib.Core.Bool.{true};
 ghost use mathlib.Core.List.{_++_};
 ghost use Prim.Native.Nat.{_+_, _≤_, _<_, _/_};
 ghost use lib.ListN.{length};
-ghost use Rattle.octets.specs.Laid.{Lays};
+ghost use Rattle.octets.specs.Laid.{counted, Lays};
 ghost use Rattle.octets.specs.Answers.{output, outAfter};
 ghost use Rattle.tables.specs.Rows.{propertySize};
 ghost use Rattle.tables.specs.Fronts.{front};
-ghost use Rattle.tables.specs.Lent.{lent, componentsIn, propertiesIn, parametersIn, nameIn};
+ghost use Rattle.tables.specs.Lent.{lent, componentsIn, propertiesIn, parametersIn, brokenIn, nameIn};
+ghost use Rattle.tables.specs.declared.Found.the-variants.{Nothing};
 ghost use Rattle.walking.specs.Walk.{heldBefore};
+ghost use Rattle.walking.specs.Totals.{total};
 ghost use Rattle.walking.specs.Places.{RisingParameters, Owns, Ruled, Ordered, Arrived};
 ghost use Rattle.printing.specs.Lines.{closedLine, endLine};
 ghost use Rattle.writing.specs.Answers.{byLength, writtenIn, writeAnswer, writeOut};
 ghost use Rattle.writing.specs.Places.{WroteHead, Wrote, lineIn, linesIn};
+ghost use Rattle.writing.specs.Lengths.{marksLength, lineLength};
 use octets::Output;
 use printing::Printed;
 use tables::Found;
@@ -252,6 +255,71 @@ fn write_trees(
     end
 }
 
+// Counts the lines BEGIN and END of all components.
+fn count_marks(text: &[u8], components: &[u32]) -> usize
+    ensures { λ r. ⌜ r ≡ counted (total (marksLength (now (text .entry)) (now (components .entry))) 0 (length (componentsIn (now (components .entry))))) ⌝ }
+{
+    let rows = tables::component_rows(components);
+    let mut at: usize = 0;
+    let mut row: usize = 0;
+    while row < rows {
+        let c = tables::component_at(components, row);
+        let name = octets::view(text, c.name_start as usize, c.name_len as usize);
+        at = octets::count_on(at, printing::count_marks(name));
+        row += 1;
+    }
+    at
+}
+
+// Counts the line of a property on from `at`; no parameter before `first` is its own.
+fn count_line(
+    text: &[u8],
+    properties: &[u32],
+    parameters: &[u32],
+    number: usize,
+    first: usize,
+    at: usize,
+) -> Printed
+    requires { ⌜ (number < length (now properties) / propertySize) × RisingParameters (parametersIn (now parameters)) × (first ≤ front (heldBefore number) (parametersIn (now parameters))) ⌝ }
+    ensures { λ r. ⌜ r .length ≡ counted (at + lineLength (now (text .entry)) (now (properties .entry)) (now (parameters .entry)) number) ⌝ }
+    ensures { λ r. ⌜ r .next ≤ front (heldBefore (number + 1)) (parametersIn (now (parameters .entry))) ⌝ }
+{
+    let own = walking::first_held(parameters, first, number);
+    let p = tables::property_at(properties, number);
+    let line = printing::count_property(text, p, number, parameters, own);
+    Printed {
+        length: octets::count_on(at, line.length),
+        next: line.next,
+    }
+}
+
+// Counts the lines of all properties on from `at`.
+fn count_lines(text: &[u8], properties: &[u32], parameters: &[u32], at: usize) -> usize
+    requires { ⌜ RisingParameters (parametersIn (now parameters)) ⌝ }
+    ensures { λ r. ⌜ r ≡ counted (at + total (lineLength (now (text .entry)) (now (properties .entry)) (now (parameters .entry))) 0 (length (propertiesIn (now (properties .entry))))) ⌝ }
+{
+    let rows = tables::property_rows(properties);
+    let mut line = Printed {
+        length: at,
+        next: 0,
+    };
+    let mut number: usize = 0;
+    while number < rows {
+        line = count_line(text, properties, parameters, number, line.next, line.length);
+        number += 1;
+    }
+    line.length
+}
+
+// How long the trees of tables are: each row has its lines in one of them, so no tree is walked.
+fn count_rows(text: &[u8], components: &[u32], properties: &[u32], parameters: &[u32]) -> usize
+    requires { ⌜ brokenIn (lent (now text) (now components) (now properties) (now parameters)) ≡ Nothing ⌝ }
+    ensures { λ r. ⌜ r ≡ counted (length (writtenIn (lent (now (text .entry)) (now (components .entry)) (now (properties .entry)) (now (parameters .entry))))) ⌝ }
+{
+    let marks = count_marks(text, components);
+    count_lines(text, properties, parameters, marks)
+}
+
 fn refuse(answer: u32, row: usize) -> Output
     ensures { λ r. ⌜ r ≡ output answer row 0 ⌝ }
 {
@@ -270,13 +338,11 @@ fn write_fitting(
     parameters: &[u32],
     out: &mut [u8],
 ) -> Output
-    requires { ⌜ Ruled (lent (now text) (now components) (now properties) (now parameters)) ⌝ }
+    requires { ⌜ brokenIn (lent (now text) (now components) (now properties) (now parameters)) ≡ Nothing ⌝ }
     ensures { λ r. ⌜ r ≡ byLength (length (writtenIn (lent (now (text .entry)) (now (components .entry)) (now (properties .entry)) (now (parameters .entry))))) (length (now (out .entry))) ⌝ }
     ensures { λ r. ⌜ now (out .exit) ≡ outAfter r (writtenIn (lent (now (text .entry)) (now (components .entry)) (now (properties .entry)) (now (parameters .entry)))) (now (out .entry)) ⌝ }
 {
-    let ordered = walking::in_order(components, properties);
-    let mut none = [0u8; 0];
-    let needed = write_trees(text, components, properties, parameters, ordered, &mut none);
+    let needed = count_rows(text, components, properties, parameters);
     if octets::LONGEST < needed {
         return refuse(octets::TOO_LONG, 0);
     }
@@ -284,6 +350,7 @@ fn write_fitting(
     if answer.answer != octets::DONE {
         return answer;
     }
+    let ordered = walking::in_order(components, properties);
     write_trees(text, components, properties, parameters, ordered, out);
     answer
 }

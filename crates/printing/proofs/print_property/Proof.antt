@@ -6,10 +6,11 @@ use Prim.Native.Nat.{_≤_}
 use lib.ListN.{length}
 use borrow.Author.Tests.{not-true}
 use Rattle.octets.specs.Laid.{most}
+use Rattle.octets.proofs.Bools.{both}
 use Rattle.octets.proofs.Writing.{from-as}
 use Rattle.tables.specs.Lent.{parametersIn}
 use Rattle.printing.specs.Lines.{closedLine}
-use Rattle.printing.proofs.Pens.{then, piece-as, closed, parts, bare, both-true}
+use Rattle.printing.proofs.Pens.{then, piece-as, closed, parts, bare}
 use Rattle.printing.proofs.print_property.Statement.{statement}
 use Rattle.printing.proofs.print_property.Tie as tie
 
@@ -50,7 +51,7 @@ returns : tie.Need-returns
 returns c =
     let t = whole-test c in
     let a = t .before .before .before .before .before .before .args in
-    let tests = both-true _ _ (t .if1 .taken) in
+    let tests = both _ _ (t .if1 .taken) in
     let none = t .before .before .has-parameters .ensures (not-true _ (tests .0)) in
     let e = bare (a .text .now) (a .p) (a .number) (a .first) (parametersIn (a .parameters .now)) none (t .before .stands-whole .ensures (tests .1)) in
     (from-as (ap closedLine e) (c .before .before .print-whole .ensures), omega (arith, none))

@@ -6,7 +6,6 @@ use Rattle.octets.specs.Answers.{outAfter}
 use Rattle.octets.specs.declared.Output.{Output}
 use Rattle.octets.proofs.Answers.{kept}
 use Rattle.tables.specs.Lent.{Lent, lent}
-use Rattle.walking.proofs.Rows.{ruled}
 use Rattle.writing.specs.Answers.{writtenIn}
 use Rattle.writing.proofs.Answers.{broken-row, unwritable-row, row-not-ascii, fitting, told-no-done}
 use Rattle.writing.proofs.write_components.Statement.{statement}
@@ -61,7 +60,7 @@ enum-told-2 c = search needs
 write-fitting-requires : tie.Need-write-fitting-requires
 write-fitting-requires c κs =
     let f = after-first-broken c in
-    ruled (tables-of (start-at f)) (sym (f .first-broken .ensures) ∙ c .before .before .before .before .enum-told .given .1)
+    sym (f .first-broken .ensures) ∙ c .before .before .before .before .enum-told .given .1
 
 returns-2 : tie.Need-returns-2
 returns-2 c =
