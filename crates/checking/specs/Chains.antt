@@ -1,4 +1,4 @@
--- How an array with a depth stands for the rows that a later row may name as its parent.
+-- Serves inner contracts only. How an array with a depth stands for the rows that a later row may name as its parent.
 -- Assumes nothing.
 use Prim.Native.Nat.{ℕ, zero, suc, _<_}
 use mathlib.Core.List.{List, [], _∷_}

@@ -1,4 +1,4 @@
--- What the contract of a call says, whichever call it is: that it asks nothing, and that it determines the result and everything lent
+-- Serves laws only. What the contract of a call says, whichever call it is: that it asks nothing, and that it determines the result and everything lent
 -- (document 01, "How much a contract has to say").
 -- Assumes nothing.
 use Prim.Native.Nat.{ℕ}

@@ -1,4 +1,4 @@
--- The starred examples of document 01, "Examples": what an example can say, when it holds, and the twelve of them as one table.
+-- Serves laws only. The starred examples of document 01, "Examples": what an example can say, when it holds, and the twelve of them as one table.
 -- Assumes nothing.
 use Prim.Native.Nat.{ℕ}
 use mathlib.Core.Bool.{Bool, true, false, _&&_}

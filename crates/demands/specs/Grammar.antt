@@ -1,5 +1,6 @@
--- A calendar: a text as lines, and the lines as nested components (document 01, "Lines and nesting" and "Sizes"; RFC 5545, sections 3.1, 3.4 and 3.6),
+-- Serves laws only. A calendar: a text as lines, and the lines as nested components (document 01, "Lines and nesting" and "Sizes"; RFC 5545, sections 3.1, 3.4 and 3.6),
 -- with the rows that they add. A component stands inside another as its lines stand between the other's lines: nothing is kept open here.
+-- Here document 01 departs from the RFC: docs/DIFFERENCES.md, R-2, R-4, R-17, R-18, R-25.
 -- Assumes nothing.
 use Prim.Native.Nat.{ℕ, suc, _+_, _<_}
 use mathlib.Core.Path.{_≡_}

@@ -1,4 +1,4 @@
--- A text that is no calendar: the first line that cannot stand where it does, or the end, and what it is refused for (document 01, "What each number
+-- Serves laws only. A text that is no calendar: the first line that cannot stand where it does, or the end, and what it is refused for (document 01, "What each number
 -- returns and leaves", numbers 3 to 9).
 -- Assumes nothing.
 use Prim.Native.Nat.{ℕ, suc, _≤_, _<_}

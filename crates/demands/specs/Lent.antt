@@ -1,4 +1,4 @@
--- Two sets of lent buffers, one with more room; what a reading tells of, whether it is in order, and what a late refusal leaves.
+-- Serves laws only. Two sets of lent buffers, one with more room; what a reading tells of, whether it is in order, and what a late refusal leaves.
 -- Assumes nothing.
 use Prim.Native.Nat.{ℕ, _*_, _≤_}
 use mathlib.Core.Bool.{Bool}

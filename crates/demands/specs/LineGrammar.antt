@@ -1,5 +1,6 @@
--- What one line says, as a grammar (document 01, "Keys", "One parameter", "Lines and nesting", "Sizes"; RFC 5545, section 3.1, `contentline`),
+-- Serves laws only. What one line says, as a grammar (document 01, "Keys", "One parameter", "Lines and nesting", "Sizes"; RFC 5545, section 3.1, `contentline`),
 -- with the rows that it adds. It says which parts stand one behind the other, and nothing of how they are found.
+-- Here document 01 departs from the RFC: docs/DIFFERENCES.md, R-1, R-5 to R-16.
 -- Assumes nothing.
 use Prim.Native.Nat.{ℕ, _+_, _<_}
 use mathlib.Core.Path.{_≡_}

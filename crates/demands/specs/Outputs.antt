@@ -1,4 +1,4 @@
--- Answers of a fold, of quoting and of the writer: the bytes that they tell of, and how room decides about them (document 01, "What each number
+-- Serves laws only. Answers of a fold, of quoting and of the writer: the bytes that they tell of, and how room decides about them (document 01, "What each number
 -- returns and leaves").
 -- Assumes nothing.
 use Prim.Native.Nat.{ℕ, _≤_, _<_}

@@ -1,4 +1,4 @@
--- A readable feed (document 01, "Lines and nesting"), and what it is owed.
+-- Serves laws only. A readable feed (document 01, "Lines and nesting"), and what it is owed.
 -- Assumes nothing.
 use Prim.Native.Nat.{ℕ, _*_, _≤_, _<_}
 use mathlib.Core.Path.{_≡_}

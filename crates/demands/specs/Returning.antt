@@ -1,5 +1,6 @@
--- Trees as lines, and which trees come back as they are when they are written and read (document 01, demand 2 and "Writing and trees";
+-- Serves laws only. Trees as lines, and which trees come back as they are when they are written and read (document 01, demand 2 and "Writing and trees";
 -- RFC 5545, section 3.1, `contentline`).
+-- Here document 01 departs from the RFC: docs/DIFFERENCES.md, R-24.
 -- Assumes nothing.
 use Prim.Native.Nat.{ℕ, zero, suc, _+_, _≤_, _<_}
 use mathlib.Core.Path.{_≡_}

@@ -1,4 +1,4 @@
--- Room for rows, and what two readings into buffers of different length have in common.
+-- Serves laws only. Room for rows, and what two readings into buffers of different length have in common.
 -- Assumes nothing.
 use Prim.Native.Nat.{ℕ, _*_, _≤_, _<_}
 use mathlib.Core.Path.{_≡_}

@@ -1,4 +1,4 @@
--- The parameter values that the writing rule allows (document 01, "Writing and trees"), as far as reading one back needs it.
+-- Serves laws only. The parameter values that the writing rule allows (document 01, "Writing and trees"), as far as reading one back needs it.
 -- Assumes nothing.
 use Prim.Native.Nat.{ℕ, _<_}
 use mathlib.Core.Path.{_≡_}

@@ -1,4 +1,5 @@
 -- The fold of the repository, `fold_line` of src/properties.rs, on ASCII without LF (document 01, "Folds").
+-- Here document 01 departs from the RFC: docs/DIFFERENCES.md, R-20, R-21.
 -- Assumes nothing.
 use Prim.Native.Nat.{ℕ, zero, suc, _-_}
 use mathlib.Core.Bool.{Bool, _||_}

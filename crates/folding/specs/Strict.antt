@@ -1,4 +1,5 @@
 -- The strict fold (document 01, "Folds"; RFC 5545, section 3.1): greedy over units, none of which is cut.
+-- Here document 01 departs from the RFC: docs/DIFFERENCES.md, R-21.
 -- Assumes nothing.
 use Prim.Native.Nat.{ℕ, _-_, _≤_, _<_}
 use mathlib.Core.Path.{_≡_}

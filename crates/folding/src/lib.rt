@@ -1,4 +1,5 @@
 // The two folds of a line: the strict one of RFC 5545, section 3.1, which the writer uses, and the repository's.
+// Here document 01 departs from the RFC: docs/DIFFERENCES.md, R-20, R-21.
 ghost use mathlib.Core.Path.{_≡_};
 ghost use Prim.Native.Nat.{_+_, _<_};
 ghost use lib.ListN.{length};

@@ -1,4 +1,5 @@
 -- What a line is, by itself (document 01, "Lines and nesting"; RFC 5545, section 3.1, `contentline`). Offsets count in the line.
+-- Here document 01 departs from the RFC: docs/DIFFERENCES.md, R-4, R-5, R-15, R-16, R-17.
 -- Assumes nothing.
 use Prim.Native.Nat.{ℕ, _+_, _-_}
 use mathlib.Core.Bool.{_&&_}

@@ -1,4 +1,4 @@
--- What a line tells of itself lies within it: the parts that the reading goes by.
+-- Serves inner contracts only. What a line tells of itself lies within it: the parts that the reading goes by.
 -- Assumes nothing.
 use Prim.Native.Nat.{ℕ, _+_, _≤_, _<_}
 use mathlib.Core.Path.{_≡_}

@@ -1,5 +1,6 @@
 -- A text as lines (document 01, "Lines and nesting"; RFC 5545, section 3.1). A line ends at LF or at the end of the text. One CR directly
 -- before the LF belongs to the break, and every other CR is a byte of the line.
+-- Here document 01 departs from the RFC: docs/DIFFERENCES.md, R-2.
 -- Assumes nothing.
 use Prim.Native.Nat.{ℕ, zero, suc, _+_, _-_}
 use mathlib.Core.Bool.{_&&_}

@@ -1,4 +1,4 @@
--- How the reader's state stands for what has been read.
+-- Serves inner contracts only. How the reader's state stands for what has been read.
 -- Assumes nothing.
 use Prim.Native.Nat.{ℕ, zero, suc, _+_}
 use mathlib.Core.Path.{_≡_}

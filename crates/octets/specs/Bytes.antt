@@ -1,4 +1,5 @@
 -- The bytes that the format gives a meaning to (RFC 5545, section 3.1 and RFC 5234, appendix B.1), and the classes made of them.
+-- Here document 01 departs from the RFC: docs/DIFFERENCES.md, R-1.
 -- Assumes nothing.
 use Prim.Native.Nat.{ℕ, _+_}
 use mathlib.Core.Bool.{Bool, not, _&&_, _||_}

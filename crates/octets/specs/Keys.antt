@@ -1,4 +1,5 @@
 -- The key of a property line (document 01, "Keys"; RFC 5545, section 3.1, `name`).
+-- Here document 01 departs from the RFC: docs/DIFFERENCES.md, R-1.
 -- Assumes nothing.
 use Prim.Native.Nat.{ℕ}
 use mathlib.Core.Bool.{Bool, _&&_, _||_}

@@ -1,4 +1,4 @@
--- Bytes as one number, the first one lowest, and what is asked of each of them.
+-- Serves inner contracts only. Bytes as one number, the first one lowest, and what is asked of each of them.
 -- Assumes nothing.
 use Prim.Native.Nat.{ℕ, _+_, _*_}
 use mathlib.Core.Bool.{Bool}

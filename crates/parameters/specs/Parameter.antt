@@ -1,5 +1,6 @@
 -- One parameter at the front of the rest of a line (document 01, "One parameter"; RFC 5545, section 3.1, `param`).
 -- All offsets are relative to the rest, which begins with the `;`.
+-- Here document 01 departs from the RFC: docs/DIFFERENCES.md, R-6 to R-9.
 -- Assumes nothing.
 use Prim.Native.Nat.{ℕ, _+_}
 use mathlib.Core.List.{List}

@@ -1,4 +1,5 @@
 -- The value of a parameter, in the bytes behind its `=` (document 01, "One parameter"; RFC 5545, section 3.1, `param-value` and `quoted-string`).
+-- Here document 01 departs from the RFC: docs/DIFFERENCES.md, R-7, R-10 to R-14.
 -- Assumes nothing.
 use Prim.Native.Nat.{ℕ, zero, suc, _+_, _-_, _≤_}
 use mathlib.Core.Bool.{Bool, false, not, _&&_}

@@ -1,4 +1,5 @@
 // The parameters of a property line (RFC 5545, section 3.2): where each key and value stands, and how many bytes they take.
+// Here document 01 departs from the RFC: docs/DIFFERENCES.md, R-6 to R-14.
 ghost use mathlib.Core.Path.{_≡_};
 ghost use Prim.Native.Nat.{_+_, _≤_};
 ghost use lib.ListN.{getD};

@@ -1,4 +1,5 @@
 -- The lines that a tree is written as (document 01, "Writing and trees"; RFC 5545, section 3.1, `contentline`).
+-- Here document 01 departs from the RFC: docs/DIFFERENCES.md, R-24.
 -- Assumes nothing.
 use Prim.Native.Nat.{ℕ}
 use mathlib.Core.List.{List, [], _∷_, _++_}

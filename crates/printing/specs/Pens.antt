@@ -1,4 +1,4 @@
--- A line that is laid piece by piece: how many octets the present physical line still takes, how far the buffer is filled, and which parameters are its own.
+-- Serves inner contracts only. A line that is laid piece by piece: how many octets the present physical line still takes, how far the buffer is filled, and which parameters are its own.
 -- Assumes nothing.
 use Prim.Native.Nat.{ℕ, _+_}
 use mathlib.Core.Path.{_≡_}

@@ -1,4 +1,5 @@
 -- Quoting of a parameter value, `quote_special_chars` of src/properties.rs (document 01, "Writing and trees"; RFC 5545, section 3.2).
+-- Here document 01 departs from the RFC: docs/DIFFERENCES.md, R-10.
 -- Assumes nothing.
 use Prim.Native.Nat.{ℕ, _-_}
 use mathlib.Core.Bool.{Bool, not, _&&_, _||_}

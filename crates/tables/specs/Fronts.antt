@@ -1,4 +1,4 @@
--- How many rows at the front of a list are of a class, the run of parameter rows that one property has, and the property with these.
+-- Serves inner contracts only. How many rows at the front of a list are of a class, the run of parameter rows that one property has, and the property with these.
 -- Assumes nothing.
 use Prim.Native.Nat.{ℕ, suc}
 use mathlib.Core.Bool.{Bool}

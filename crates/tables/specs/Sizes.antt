@@ -1,4 +1,4 @@
--- How many components, properties and parameters trees have. Serves laws only.
+-- Serves laws only. How many components, properties and parameters trees have.
 -- Assumes nothing.
 use Prim.Native.Nat.{ℕ, _+_}
 use mathlib.Core.List.{List, [], _∷_}

@@ -1,4 +1,4 @@
--- The rows at the top of a table, and the trees of rows in turn. Serves laws only.
+-- Serves laws only. The rows at the top of a table, and the trees of rows in turn.
 -- Assumes nothing.
 use Prim.Native.Nat.{ℕ}
 use mathlib.Core.List.{List, [], _∷_}

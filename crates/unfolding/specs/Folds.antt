@@ -1,4 +1,5 @@
--- Where a feed is folded (document 01, "Unfolding"; RFC 5545, section 3.1): at an LF that a blank follows at once.
+-- Serves inner contracts only. Where a feed is folded (document 01, "Unfolding"; RFC 5545, section 3.1): at an LF that a blank follows at once.
+-- Here document 01 departs from the RFC: docs/DIFFERENCES.md, R-3.
 -- Assumes nothing.
 use Prim.Native.Nat.{ℕ, suc}
 use mathlib.Core.Bool.{Bool, _&&_}

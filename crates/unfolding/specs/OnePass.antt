@@ -1,4 +1,4 @@
--- Unfolding once more, in the words of document 01: a pass that looks at what stands at the front, and passes over the bytes that go.
+-- Serves laws only. Unfolding once more, in the words of document 01: a pass that looks at what stands at the front, and passes over the bytes that go.
 -- A law of proofs/OnePass.antt shows that it is `unfolded`.
 -- Assumes nothing.
 use Prim.Native.Nat.{ℕ, zero, suc}

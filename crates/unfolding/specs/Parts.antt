@@ -1,4 +1,4 @@
--- The parts of the contracts, by name.
+-- Serves inner contracts only. The parts of the contracts, by name.
 -- Assumes nothing.
 use Prim.Native.Nat.{ℕ, _-_, _≤_, _<_}
 use mathlib.Core.Path.{_≡_}

@@ -1,6 +1,7 @@
 -- Unfolding (document 01, "Unfolding"; RFC 5545, section 3.1): one pass over the bytes of a feed. Every LF that a blank follows at once goes,
 -- with that one blank, and with a CR directly before the LF.
 -- Which bytes go is said of each byte by itself: by the byte before it and the two behind it, as they are in the feed.
+-- Here document 01 departs from the RFC: docs/DIFFERENCES.md, R-3.
 -- Assumes nothing.
 use Prim.Native.Nat.{ℕ}
 use mathlib.Core.Bool.{Bool, true, false, _&&_, _||_}

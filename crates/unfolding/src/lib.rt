@@ -1,4 +1,5 @@
 // Unfolding of the lines of a calendar feed (RFC 5545, section 3.1), over the bytes as they came.
+// Here document 01 departs from the RFC: docs/DIFFERENCES.md, R-3.
 ghost use mathlib.Core.Path.{_≡_};
 ghost use Prim.Native.Nat.{_+_, _≤_, _<_};
 ghost use lib.ListN.{length, drop};

@@ -1,4 +1,4 @@
--- What a walk knows of tables that meet the table rule, and of a component row that it has come to. Serves inner contracts only.
+-- Serves inner contracts only. What a walk knows of tables that meet the table rule, and of a component row that it has come to.
 -- Assumes nothing.
 use Prim.Native.Nat.{ℕ, _<_}
 use mathlib.Core.Path.{_≡_}

@@ -1,4 +1,4 @@
--- What rows weigh together, by the weight of each row number. Serves inner contracts and laws only.
+-- Serves inner contracts and laws only. What rows weigh together, by the weight of each row number.
 -- Assumes nothing.
 use Prim.Native.Nat.{ℕ, zero, suc, _+_}
 

@@ -1,4 +1,4 @@
--- Where the rows of a component stand, so that they are found without a search of all rows.
+-- Serves inner contracts only. Where the rows of a component stand, so that they are found without a search of all rows.
 -- Serves laws and inner contracts: what the rows are is said in `tables` (Trees), by a plain search.
 -- Assumes nothing.
 use Prim.Native.Nat.{ℕ, zero, suc, _+_, _/_, _≤_, _<_}

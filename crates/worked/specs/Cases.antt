@@ -1,4 +1,4 @@
--- What a worked case can say, when it holds, and which cases of a table do not. The cases themselves are in the other files: small inputs with what
+-- Serves laws only. What a worked case can say, when it holds, and which cases of a table do not. The cases themselves are in the other files: small inputs with what
 -- document 01 says of them, written by hand, so that a reader can hold each against document 01 alone.
 -- Assumes nothing.
 use Prim.Native.Nat.{ℕ, zero, suc, _+_, _*_}

@@ -1,4 +1,4 @@
--- The parts of a reading by themselves: unfolding, views, keys and one parameter.
+-- Serves laws only. The parts of a reading by themselves: unfolding, views, keys and one parameter.
 -- Assumes nothing.
 use mathlib.Core.List.{List, [], _∷_, _++_}
 use Rattle.worked.specs.Cases.{bytes, bytes₀, Case, case, unfolds, views, hasKey, hasParameter}

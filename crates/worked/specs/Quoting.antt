@@ -1,4 +1,4 @@
--- Quoting: left, wrapped, and too little room (13).
+-- Serves laws only. Quoting: left, wrapped, and too little room (13).
 -- Assumes nothing.
 use mathlib.Core.List.{List, [], _∷_, _++_}
 use Rattle.worked.specs.Cases.{bytes, bytes₀, Case, case, quotes}

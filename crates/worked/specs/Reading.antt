@@ -1,4 +1,4 @@
--- Readings that are Done (answer 0): raw words of the rows, the text in front, and what stands behind both.
+-- Serves laws only. Readings that are Done (answer 0): raw words of the rows, the text in front, and what stands behind both.
 -- Assumes nothing.
 use mathlib.Core.List.{List, [], _∷_, _++_}
 use Rattle.tables.specs.Lent.{lent}

@@ -1,4 +1,4 @@
--- Readings that are refused for a line (3 to 7) or at the end of the text (8, 9). The text is in front, and the tables stay.
+-- Serves laws only. Readings that are refused for a line (3 to 7) or at the end of the text (8, 9). The text is in front, and the tables stay.
 -- Assumes nothing.
 use mathlib.Core.List.{List, [], _∷_, _++_}
 use Rattle.tables.specs.Lent.{lent}

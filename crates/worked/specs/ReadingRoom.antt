@@ -1,4 +1,4 @@
--- Readings and room: too little text (2), too few rows (10), just enough, and more than is asked for.
+-- Serves laws only. Readings and room: too little text (2), too few rows (10), just enough, and more than is asked for.
 -- Assumes nothing.
 use mathlib.Core.List.{List, [], _∷_, _++_}
 use Rattle.tables.specs.Lent.{lent}

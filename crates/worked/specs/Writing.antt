@@ -1,4 +1,4 @@
--- What is written (answer 0) for tables made by hand, and too little room for it (13).
+-- Serves laws only. What is written (answer 0) for tables made by hand, and too little room for it (13).
 -- Assumes nothing.
 use mathlib.Core.List.{List, [], _∷_, _++_}
 use lib.ListN.{replicate}

@@ -1,4 +1,4 @@
--- What the writer refuses: 14 by the table rule, 15 and 12 by the writing rule, with the row, and their order. The buffer stays.
+-- Serves laws only. What the writer refuses: 14 by the table rule, 15 and 12 by the writing rule, with the row, and their order. The buffer stays.
 -- Assumes nothing.
 use mathlib.Core.List.{List, [], _∷_, _++_}
 use Rattle.tables.specs.Lent.{lent}

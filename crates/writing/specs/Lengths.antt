@@ -1,4 +1,4 @@
--- How many bytes a row adds to what tables are written as. Serves inner contracts only.
+-- Serves inner contracts only. How many bytes a row adds to what tables are written as.
 -- Assumes nothing.
 use Prim.Native.Nat.{ℕ, _+_}
 use mathlib.Core.List.{List}
