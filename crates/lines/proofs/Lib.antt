@@ -1,3 +1,4 @@
 pub mod Split
 pub mod Rule
 pub mod Sound
+mod Examples

@@ -1,3 +1,4 @@
 pub mod Laws
 pub mod Rooms
 pub mod Fits
+mod Examples

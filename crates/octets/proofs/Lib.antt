@@ -10,3 +10,4 @@ pub mod Every
 pub mod KeyTable
 pub mod Keys
 pub mod Answers
+mod Examples

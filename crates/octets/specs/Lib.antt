@@ -7,3 +7,4 @@ pub mod Words
 pub mod Keys
 pub mod Views
 pub mod Answers
+pub mod Literals

@@ -1,11 +1,11 @@
--- The table rule and trees by example. Assumes nothing.
+-- The table rule, trees and the words of rows by example. Assumes nothing.
 use mathlib.Core.Path.{_≡_, refl}
 use mathlib.Core.List.{List, [], _∷_, map}
 use Prim.Native.Nat.{ℕ, _+_, _-_}
 use lib.Dec.{eqb}
 use Rattle.octets.specs.Choice.{pick}
 use Rattle.octets.specs.Answers.{deepest}
-use Rattle.tables.specs.Rows.{noParent, tabulate}
+use Rattle.tables.specs.Rows.{noParent, componentSize, componentWords, propertyWords, parameterWords, componentAt, propertyAt, parameterAt, tabulate, rowsOf}
 use Rattle.tables.specs.TableRule.{broken, firstBroken, outFrom}
 use Rattle.tables.specs.Trees.{Trees, none, tree, absent, present, gather, forest, treeAt, treesOf}
 use Rattle.tables.specs.declared.ComponentRow.{ComponentRow}
@@ -116,3 +116,22 @@ grown = refl
 childless : treeAt [] (top ∷ []) [] [] deepest noParent ≡ tree [] [] none none
 unfolding gather forest
 childless = refl
+
+-- ---- rows as words
+
+-- "parent row or 4294967295 for none, depth, name start, name length", and so for the two others
+words : (componentWords (component noParent 1 6 2) ≡ 4294967295 ∷ 1 ∷ 6 ∷ 2 ∷ [])
+    × (propertyWords (property 1 2 3 4 5) ≡ 1 ∷ 2 ∷ 3 ∷ 4 ∷ 5 ∷ [])
+    × (parameterWords (parameter 2 3 4 1 5 6) ≡ 2 ∷ 3 ∷ 4 ∷ 1 ∷ 5 ∷ 6 ∷ [])
+words = (refl, refl, refl)
+
+-- the second row of each table, read back
+read : (componentAt (0 ∷ 0 ∷ 0 ∷ 0 ∷ 1 ∷ 2 ∷ 3 ∷ 4 ∷ []) 1 ≡ component 1 2 3 4)
+    × (propertyAt (0 ∷ 0 ∷ 0 ∷ 0 ∷ 0 ∷ 1 ∷ 2 ∷ 3 ∷ 4 ∷ 5 ∷ []) 1 ≡ property 1 2 3 4 5)
+    × (parameterAt (0 ∷ 0 ∷ 0 ∷ 0 ∷ 0 ∷ 0 ∷ 2 ∷ 3 ∷ 4 ∷ 1 ∷ 5 ∷ 6 ∷ []) 1 ≡ parameter 2 3 4 1 5 6)
+read = (refl, refl, refl)
+
+-- "the lent length divided by the row size, rounded down": three words more are no row
+rounded : rowsOf componentSize componentAt (1 ∷ 2 ∷ 3 ∷ 4 ∷ 5 ∷ 6 ∷ 7 ∷ []) ≡ component 1 2 3 4 ∷ []
+unfolding tabulate
+rounded = refl

@@ -20,7 +20,8 @@ use Rattle.folding.specs.Repository.{cuts}
 use Rattle.writable.specs.WritingRule.{judgedFrom, judgedIn}
 use Rattle.printing.specs.Lines.{parametersText, propertyLines, written}
 use Rattle.writing.specs.Answers.{writeAnswer}
-use Rattle.worked.specs.Cases.{bytes, rising, turning, repeated, nested, comesTrue, wrong}
+use Rattle.octets.specs.Literals.{bytes}
+use Rattle.worked.specs.Cases.{rising, turning, repeated, nested, comesTrue, wrong}
 use Rattle.worked.specs.Reading as reading
 use Rattle.worked.specs.ReadingRoom as reading-room
 use Rattle.worked.specs.ReadingRefused as reading-refused

@@ -2,13 +2,13 @@
 -- document 01 says of them, written by hand, so that a reader can hold each against document 01 alone.
 -- Assumes nothing.
 use Prim.Native.Nat.{ℕ, zero, suc, _+_, _*_}
-use Prim.Native.Char.{code}
 use Prim.Native.String as strings
 use mathlib.Core.Bool.{Bool, _&&_}
 use mathlib.Core.List.{List, [], _∷_, _++_}
 use lib.ListN.{length, replicate}
 use lib.Dec.{eqb}
 use Rattle.octets.specs.Choice.{pick}
+use Rattle.octets.specs.Literals.{bytes}
 use Rattle.octets.specs.Laid.{laid}
 use Rattle.octets.specs.Words.{sameBytes}
 use Rattle.octets.specs.Views.{viewed}
@@ -32,11 +32,6 @@ use Rattle.quoting.specs.Answers.{quoteAnswer, quoteOut}
 use Rattle.writing.specs.Answers.{writeAnswer, writeOut}
 
 -- ---- inputs, and what stands in lent buffers before a call
-
--- a text as bytes: the number of each character
-unfoldable pub bytes : strings.String → List ℕ
-bytes strings.[] = []
-bytes (strings._∷_ c cs) = code c ∷ bytes cs
 
 -- so many letters `a`
 abbrev pub letters : ℕ → List ℕ

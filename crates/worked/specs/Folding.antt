@@ -1,7 +1,8 @@
 -- Serves laws only. The two folds: Done (0), an LF (11), a byte of 128 or more (12), too little room (13), and their order.
 -- Assumes nothing.
 use mathlib.Core.List.{List, [], _∷_, _++_}
-use Rattle.worked.specs.Cases.{bytes, letters, bytes₀, Case, case, folds, foldsStrictly}
+use Rattle.octets.specs.Literals.{bytes}
+use Rattle.worked.specs.Cases.{letters, bytes₀, Case, case, folds, foldsStrictly}
 
 -- the strict fold, Done
 abbrev pub strictly : List Case

@@ -1,7 +1,8 @@
 -- Serves laws only. The parts of a reading by themselves: unfolding, views, keys and one parameter.
 -- Assumes nothing.
 use mathlib.Core.List.{List, [], _∷_, _++_}
-use Rattle.worked.specs.Cases.{bytes, bytes₀, Case, case, unfolds, views, hasKey, hasParameter}
+use Rattle.octets.specs.Literals.{bytes}
+use Rattle.worked.specs.Cases.{bytes₀, Case, case, unfolds, views, hasKey, hasParameter}
 
 -- unfolding: the length, and the buffer as far as it goes
 abbrev pub unfoldings : List Case

@@ -1,7 +1,8 @@
 -- Serves laws only. Quoting: left, wrapped, and too little room (13).
 -- Assumes nothing.
 use mathlib.Core.List.{List, [], _∷_, _++_}
-use Rattle.worked.specs.Cases.{bytes, bytes₀, Case, case, quotes}
+use Rattle.octets.specs.Literals.{bytes}
+use Rattle.worked.specs.Cases.{bytes₀, Case, case, quotes}
 
 -- Done
 abbrev pub quotings : List Case

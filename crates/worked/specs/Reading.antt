@@ -2,7 +2,8 @@
 -- Assumes nothing.
 use mathlib.Core.List.{List, [], _∷_, _++_}
 use Rattle.tables.specs.Lent.{lent}
-use Rattle.worked.specs.Cases.{bytes, properties₀, parameters₀, room, Case, case, reads}
+use Rattle.octets.specs.Literals.{bytes}
+use Rattle.worked.specs.Cases.{properties₀, parameters₀, room, Case, case, reads}
 
 -- components: which rows, and in which order
 abbrev pub components : List Case

@@ -2,7 +2,8 @@
 -- Assumes nothing.
 use mathlib.Core.List.{List, [], _∷_, _++_}
 use Rattle.tables.specs.Lent.{lent}
-use Rattle.worked.specs.Cases.{bytes, bytes₀, properties₀, parameters₀, room, Case, case, reads, refuses}
+use Rattle.octets.specs.Literals.{bytes}
+use Rattle.worked.specs.Cases.{bytes₀, properties₀, parameters₀, room, Case, case, reads, refuses}
 
 -- 2: nothing lent is changed, and the counts are 0
 abbrev pub noTextRoom : List Case

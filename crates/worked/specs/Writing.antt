@@ -3,7 +3,8 @@
 use mathlib.Core.List.{List, [], _∷_, _++_}
 use lib.ListN.{replicate}
 use Rattle.tables.specs.Lent.{lent}
-use Rattle.worked.specs.Cases.{bytes, bytes₀, Case, case, writes}
+use Rattle.octets.specs.Literals.{bytes}
+use Rattle.worked.specs.Cases.{bytes₀, Case, case, writes}
 
 -- the lines of a component
 abbrev pub lines : List Case

@@ -2,7 +2,8 @@
 -- Assumes nothing.
 use mathlib.Core.List.{List, [], _∷_, _++_}
 use Rattle.tables.specs.Lent.{lent}
-use Rattle.worked.specs.Cases.{bytes, bytes₀, nested, Case, case, writes}
+use Rattle.octets.specs.Literals.{bytes}
+use Rattle.worked.specs.Cases.{bytes₀, nested, Case, case, writes}
 
 -- 14: components
 abbrev pub brokenComponents : List Case
