@@ -6,8 +6,6 @@ use Rattle.octets.specs.Literals.{bytes}
 use Rattle.octets.specs.Runs as runs
 use Rattle.octets.specs.Words.{sameBytes, startsWord}
 use Rattle.unfolding.specs.Unfold.{unfoldedAfter}
-use Rattle.parameters.specs.Parameter.{frontOf}
-use Rattle.parameters.specs.Parameters.{paramsAfter, paramsUsed}
 use Rattle.lines.specs.Split.{linesAfter}
 use Rattle.lines.specs.Rule.{lineOf}
 use Rattle.lines.specs.declared.Fault.the-variants.{BadLine}
@@ -36,25 +34,30 @@ before text = lent text (10 ∷ 11 ∷ 12 ∷ 13 ∷ 14 ∷ []) [] []
 abbrev fifteen : List ℕ
 fifteen = 20 ∷ 21 ∷ 22 ∷ 23 ∷ 24 ∷ 25 ∷ 26 ∷ 27 ∷ 28 ∷ 29 ∷ 30 ∷ 31 ∷ 32 ∷ 33 ∷ 34 ∷ []
 
--- the six numbers of a nothing behind BEGIN, of an END with nothing open, of Done, and of a property without its row: "length and the three counts needed"
-told : map (λ (feed : List ℕ). readInto feed (before fifteen)) (bytes "BEGIN:\n" ∷ bytes "END:A\n" ∷ bytes "BEGIN:A\nEND:A\n" ∷ bytes "BEGIN:A\nK\nEND:A" ∷ [])
-    ≡ six 3 0 7 0 0 0 ∷ six 5 0 6 0 0 0 ∷ six 0 0 14 1 0 0 ∷ six 10 0 15 1 1 0 ∷ []
-unfolding bytes unfoldedAfter runs.run sameBytes startsWord frontOf paramsAfter paramsUsed linesAfter lineOf readLines outcomeOf readingOf
+-- the six numbers of BEGIN with nothing behind it, of END with nothing open, and of Done
+told : map (λ (feed : List ℕ). readInto feed (before fifteen)) (bytes "BEGIN:\n" ∷ bytes "END:A\n" ∷ bytes "BEGIN:A\nEND:A\n" ∷ [])
+    ≡ six 3 0 7 0 0 0 ∷ six 5 0 6 0 0 0 ∷ six 0 0 14 1 0 0 ∷ []
+unfolding bytes unfoldedAfter runs.run sameBytes startsWord linesAfter lineOf readLines outcomeOf readingOf
 told = refl
+
+-- "a count exceeds its rows": "0; length and the three counts needed"
+no-room : readInto (bytes "BEGIN:A\nEND:A\n") (lent fifteen (10 ∷ 11 ∷ 12 ∷ []) [] []) ≡ six 10 0 14 1 0 0
+unfolding bytes unfoldedAfter runs.run sameBytes startsWord linesAfter lineOf readLines outcomeOf readingOf
+no-room = refl
 
 -- "unfolded length exceeds the text lent": "0; length needed, counts 0", and "Refusals 1 and 2 change nothing lent."
 no-text-room : (readInto (bytes "BEGIN:A\nEND:A\n") (before (1 ∷ 2 ∷ 3 ∷ [])) ≡ six 2 0 14 0 0 0)
     × (left (bytes "BEGIN:A\nEND:A\n") (before (1 ∷ 2 ∷ 3 ∷ [])) ≡ before (1 ∷ 2 ∷ 3 ∷ []))
-unfolding bytes unfoldedAfter runs.run sameBytes startsWord frontOf paramsAfter paramsUsed linesAfter lineOf readLines outcomeOf readingOf textAfter
+unfolding bytes unfoldedAfter runs.run sameBytes startsWord linesAfter lineOf readLines outcomeOf readingOf textAfter
 no-text-room = (refl, refl)
 
 -- "3 to 10 leave the unfolded text at the front of the text buffer, the bytes behind it as they were, and no table word changed."
 refused-leaves : left (bytes "END:\n A\n") (before (1 ∷ 2 ∷ 3 ∷ 4 ∷ 5 ∷ 6 ∷ 7 ∷ [])) ≡ before (bytes "END:A\n" ++ 7 ∷ [])
-unfolding bytes unfoldedAfter runs.run sameBytes startsWord frontOf paramsAfter paramsUsed linesAfter lineOf readLines outcomeOf readingOf textAfter
+unfolding bytes unfoldedAfter runs.run sameBytes startsWord linesAfter lineOf readLines outcomeOf readingOf textAfter
 refused-leaves = refl
 
 -- "Done writes the first bytes and rows only.": no parent, depth 1, and the name that starts at 6
 done-leaves : left (bytes "BEGIN:A\nEND:A\n") (before fifteen)
     ≡ lent (bytes "BEGIN:A\nEND:A\n" ++ 34 ∷ []) (4294967295 ∷ 1 ∷ 6 ∷ 1 ∷ 14 ∷ []) [] []
-unfolding bytes unfoldedAfter runs.run sameBytes startsWord frontOf paramsAfter paramsUsed linesAfter lineOf flat readLines outcomeOf readingOf textAfter
+unfolding bytes unfoldedAfter runs.run sameBytes startsWord linesAfter lineOf flat readLines outcomeOf readingOf textAfter
 done-leaves = refl
