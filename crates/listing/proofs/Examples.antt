@@ -1,6 +1,5 @@
 -- Listings by example, held against document 01, "Examples". Assumes nothing.
 use mathlib.Core.Path.{_≡_, refl}
-use mathlib.Core.List.{List, [], _∷_, _++_}
 use lib.ListN.{replicate}
 use Rattle.octets.specs.Literals.{bytes}
 use Rattle.octets.specs.Runs as runs

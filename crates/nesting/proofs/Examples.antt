@@ -1,6 +1,6 @@
 -- What a text answers, by example, held against document 01, "Lines and nesting" and the table of numbers. Assumes nothing.
 use mathlib.Core.Path.{_≡_, refl}
-use mathlib.Core.List.{List, [], _∷_, map}
+use mathlib.Core.List.{[], _∷_, map}
 use Rattle.octets.specs.Literals.{bytes}
 use Rattle.octets.specs.Runs as runs
 use Rattle.octets.specs.Words.{sameBytes, startsWord}
