@@ -13,14 +13,19 @@ pub fn say_number(n: usize) {
     io::print_decimal(STDOUT_FILENO, n as u64);
 }
 
-// The six numbers of a reading, to the end of the line.
-pub fn say_reading(r: Reading) {
+// The six numbers of a reading.
+pub fn say_six(r: Reading) {
     say_number(r.answer as usize);
     say_number(r.place);
     say_number(r.length);
     say_number(r.components);
     say_number(r.properties);
     say_number(r.parameters);
+}
+
+// They and the end of the line.
+pub fn say_reading(r: Reading) {
+    say_six(r);
     say(b"\n");
 }
 

@@ -1,99 +1,66 @@
-// Runs the worked cases of crates/worked against the compiled code, with the same names and in the same order. Each is a line of standard input: the call, the
-// name, and what the call is given. For each it prints a line: the name, the numbers, and the buffers whole, or that they are as they were.
-use calls::Which;
-use fields::field;
+// Runs the worked cases of crates/worked against the compiled code, with the same names and in the same order; those of the twin test are run by twin_trial.
+// Each is a line of standard input: the call, the name, and what the call is given. For each it prints a line: the name, the numbers, and the buffers
+// whole, or that they are as they were.
+use cases::fields::field;
+use cases::fields::lay_bytes;
+use cases::fields::line;
+use cases::fields::lines_in;
+use cases::fields::number;
+use cases::fields::say_name;
+use cases::fields::which;
+use cases::lent::fill_bytes;
 use libc::STDIN_FILENO;
 use trial::say;
 
 mod calls;
-mod fields;
-mod lent;
+mod deep;
 
 // Room for all lines.
 const LINES: usize = 65_536;
 
-// The call of a line, on the buffers that a reading fills.
-fn run_reading(call: &[u8], line: &[u8]) -> bool {
-    if octets::same_bytes(call, b"read") {
-        calls::read(line);
-        return true;
+// The most bytes of a feed, a line or a value, and of the buffer for an output.
+const BYTES: usize = 160;
+
+// The call on these bytes, with this buffer.
+fn call(case: &[u8], bytes: &[u8], out: &mut [u8]) {
+    let call = which(
+        field(case, 0),
+        b"read|fold|fold strictly|quote|write|unfold|view|key|parameter|read deep|write deep|",
+    );
+    match call {
+        0 => calls::read(case, bytes, out),
+        1 => calls::fold(bytes, out),
+        2 => calls::fold_strictly(bytes, out),
+        3 => calls::quote(bytes, out),
+        4 => calls::write(case, bytes, out),
+        5 => calls::unfold(bytes, out),
+        6 => calls::view(case, bytes),
+        7 => calls::key(bytes),
+        8 => calls::parameter(bytes),
+        9 => deep::read(case, bytes),
+        10 => deep::write(case, out),
+        _ => say(b" NO SUCH CALL"),
     }
-    if octets::same_bytes(call, b"read deep") {
-        calls::read_deep(line);
-        return true;
-    }
-    false
 }
 
-// One that has a buffer for its output.
-fn run_output(call: &[u8], line: &[u8]) -> bool {
-    if octets::same_bytes(call, b"fold") {
-        calls::output(Which::Fold, line);
-        return true;
-    }
-    if octets::same_bytes(call, b"fold strictly") {
-        calls::output(Which::FoldStrictly, line);
-        return true;
-    }
-    if octets::same_bytes(call, b"quote") {
-        calls::output(Which::Quote, line);
-        return true;
-    }
-    if octets::same_bytes(call, b"write") {
-        calls::write(line);
-        return true;
-    }
-    if octets::same_bytes(call, b"write deep") {
-        calls::write_deep(line);
-        return true;
-    }
-    false
+// The third field has the bytes, and the fourth begins with the room of the buffer.
+fn run(case: &[u8]) {
+    let mut bytes = [0u8; BYTES];
+    let n = lay_bytes(field(case, 2), &mut bytes);
+    let mut out = [0u8; BYTES];
+    fill_bytes(&mut out);
+    let room = octets::least(number(field(case, 3), 0), BYTES);
+    say_name(case);
+    call(case, octets::view(&bytes, 0, n), &mut out[0..room]);
+    say(b"\n");
 }
 
-// One of a part of a reading.
-fn run_part(call: &[u8], line: &[u8]) -> bool {
-    if octets::same_bytes(call, b"unfold") {
-        calls::unfold(line);
-        return true;
-    }
-    if octets::same_bytes(call, b"view") {
-        calls::view(line);
-        return true;
-    }
-    if octets::same_bytes(call, b"key") {
-        calls::key(line);
-        return true;
-    }
-    if octets::same_bytes(call, b"parameter") {
-        calls::parameter(line);
-        return true;
-    }
-    false
-}
-
-fn run(line: &[u8]) {
-    let call = field(line, 0);
-    if run_reading(call, line) {
-        return;
-    }
-    if run_output(call, line) {
-        return;
-    }
-    if run_part(call, line) {
-        return;
-    }
-    say(b"NO SUCH CALL\n");
-}
-
-// No more lines are there than bytes.
 fn run_all(lines: &[u8]) {
-    let mut at: usize = 0;
-    let mut turns = lines.len();
-    while turns > 0 && at < lines.len() {
-        turns -= 1;
-        let end = octets::find_near(lines, at, b'\n');
-        run(octets::view(lines, at, end - at));
-        at = octets::count_on(end, 1);
+    let there = lines_in(lines);
+    let mut n: usize = 0;
+    while n < there {
+        run(line(lines, n));
+        n += 1;
     }
 }
 
