@@ -1,6 +1,7 @@
 -- The worked cases hold, each table by one computed claim: no case of it is wrong. Assumes nothing.
 use mathlib.Core.Path.{_≡_, refl}
 use mathlib.Core.List.{[]}
+use Rattle.octets.specs.Literals.{bytes}
 use Rattle.octets.specs.Runs.{run}
 use Rattle.octets.specs.Words.{sameBytes, startsWord}
 use Rattle.unfolding.specs.Unfold.{unfoldedAfter}
@@ -20,7 +21,9 @@ use Rattle.folding.specs.Repository.{cuts}
 use Rattle.writable.specs.WritingRule.{judgedFrom, judgedIn}
 use Rattle.printing.specs.Lines.{parametersText, propertyLines, written}
 use Rattle.writing.specs.Answers.{writeAnswer}
-use Rattle.octets.specs.Literals.{bytes}
+use Rattle.matching.specs.Alike as matching
+use Rattle.twins.specs.Answers.{twinsAnswer}
+use Rattle.neighbours.specs.Counts.{repeats, neighboursAnswer}
 use Rattle.worked.specs.Cases.{rising, turning, repeated, nested, comesTrue, wrong}
 use Rattle.worked.specs.Reading as reading
 use Rattle.worked.specs.ReadingRoom as reading-room
@@ -29,6 +32,7 @@ use Rattle.worked.specs.Folding as folding
 use Rattle.worked.specs.Quoting as quoting
 use Rattle.worked.specs.Writing as writing
 use Rattle.worked.specs.WritingRefused as writing-refused
+use Rattle.worked.specs.Twins as twins
 use Rattle.worked.specs.Parts as parts
 
 -- ---- readings that are Done (answer 0): raw words of the rows, the text in front, and what stands behind both
@@ -197,6 +201,42 @@ pub in-order : wrong writing-refused.inTurn ≡ []
 unfolding bytes comesTrue wrong turning sameBytes startsWord run quotedLen furtherAfter formOf tabulate broken firstBroken outFrom gather forest units
     foldedUnits judgedFrom judgedIn parametersText propertyLines written writeAnswer
 in-order = refl
+
+-- ---- the twin test: twins (1), no twins (0), 14 by the table rule, 14 by a row number, and their order
+
+pub alike : wrong twins.alike ≡ []
+unfolding bytes comesTrue wrong sameBytes tabulate broken firstBroken outFrom gather forest matching.alike matching.sameTreesBy twinsAnswer
+alike = refl
+
+pub unlike : wrong twins.unlike ≡ []
+unfolding bytes comesTrue wrong sameBytes tabulate broken firstBroken outFrom gather forest matching.alike matching.sameTreesBy twinsAnswer
+unlike = refl
+
+pub other-shape : wrong twins.otherShape ≡ []
+unfolding bytes comesTrue wrong sameBytes tabulate broken firstBroken outFrom gather forest matching.alike matching.sameTreesBy twinsAnswer
+other-shape = refl
+
+pub broken-rows : wrong twins.brokenRows ≡ []
+unfolding bytes comesTrue wrong sameBytes tabulate broken firstBroken outFrom gather forest matching.alike matching.sameTreesBy twinsAnswer
+broken-rows = refl
+
+pub bad-numbers : wrong twins.badNumbers ≡ []
+unfolding bytes comesTrue wrong sameBytes tabulate broken firstBroken outFrom gather forest matching.alike matching.sameTreesBy twinsAnswer
+bad-numbers = refl
+
+-- ---- the count of neighbours, and what it refuses
+
+pub neighbours : wrong twins.neighbours ≡ []
+unfolding bytes comesTrue wrong sameBytes tabulate broken firstBroken outFrom gather forest matching.alike matching.sameTreesBy repeats neighboursAnswer
+neighbours = refl
+
+pub neighbours-with-properties : wrong twins.neighboursWithProperties ≡ []
+unfolding bytes comesTrue wrong sameBytes tabulate broken firstBroken outFrom gather forest matching.alike matching.sameTreesBy repeats neighboursAnswer
+neighbours-with-properties = refl
+
+pub neighbours-refused : wrong twins.neighboursRefused ≡ []
+unfolding bytes comesTrue wrong sameBytes tabulate broken firstBroken outFrom gather forest matching.alike matching.sameTreesBy repeats neighboursAnswer
+neighbours-refused = refl
 
 -- ---- the parts of a reading by themselves: unfolding, views, keys and one parameter
 

@@ -30,6 +30,10 @@ use Rattle.folding.specs.Repository.{repository}
 use Rattle.folding.specs.Strict.{strict}
 use Rattle.quoting.specs.Answers.{quoteAnswer, quoteOut}
 use Rattle.writing.specs.Answers.{writeAnswer, writeOut}
+use Rattle.twins.specs.Answers.{twinsAnswer}
+use Rattle.twins.specs.declared.Compared.{Compared}
+use Rattle.neighbours.specs.Counts.{neighboursAnswer}
+use Rattle.neighbours.specs.declared.Neighbours.{Neighbours}
 
 -- ---- inputs, and what stands in lent buffers before a call
 
@@ -90,6 +94,10 @@ pub data Claim : Type 0 where
   quotes : (value before numbers after : List ℕ) → Claim
   -- so does the writer, on this text and these tables
   writes : (tables : Lent) (before numbers after : List ℕ) → Claim
+  -- the twin test of two rows of this text and these tables gives three numbers
+  compares : (tables : Lent) (first second : ℕ) (numbers : List ℕ) → Claim
+  -- so does the count of neighbours among the children of a row
+  counts : (tables : Lent) (parent : ℕ) (numbers : List ℕ) → Claim
   -- unfolding into this buffer counts so many bytes, and leaves the buffer so
   unfolds : (feed before : List ℕ) (count : ℕ) (after : List ℕ) → Claim
   -- the view of a text has these bytes
@@ -120,6 +128,14 @@ sixNumbers r = r .answer ∷ r .place ∷ r .length ∷ r .components ∷ r .pro
 abbrev pub threeNumbers : Output → List ℕ
 threeNumbers o = o .answer ∷ o .place ∷ o .length ∷ []
 
+-- "answer, place, and 1 for twins, else 0"
+abbrev pub twinNumbers : Compared → List ℕ
+twinNumbers c = c .answer ∷ c .place ∷ c .twins ∷ []
+
+-- answer, place, and the count
+abbrev pub neighbourNumbers : Neighbours → List ℕ
+neighbourNumbers n = n .answer ∷ n .place ∷ n .twins ∷ []
+
 abbrev pub keyNumbers : Key → List ℕ
 keyNumbers Reserved = []
 keyNumbers (Run n) = n ∷ []
@@ -147,6 +163,8 @@ comesTrue (folds line before numbers after) = comesOut (foldAnswer repository li
 comesTrue (foldsStrictly line before numbers after) = comesOut (foldAnswer strict line (length before)) (foldOut strict line before) numbers after
 comesTrue (quotes value before numbers after) = comesOut (quoteAnswer value (length before)) (quoteOut value before) numbers after
 comesTrue (writes tables before numbers after) = comesOut (writeAnswer tables (length before)) (writeOut tables before) numbers after
+comesTrue (compares tables first second numbers) = sameBytes (twinNumbers (twinsAnswer tables first second)) numbers
+comesTrue (counts tables parent numbers) = sameBytes (neighbourNumbers (neighboursAnswer tables parent)) numbers
 comesTrue (unfolds feed before count after) = eqb (length (unfolded feed)) count && sameBytes (laid (unfolded feed) before) after
 comesTrue (views text start len part) = sameBytes (viewed text start len) part
 comesTrue (hasKey line numbers) = sameBytes (keyNumbers (keyOf line)) numbers

@@ -6,4 +6,5 @@ pub mod Folding
 pub mod Quoting
 pub mod Writing
 pub mod WritingRefused
+pub mod Twins
 pub mod Parts
