@@ -64,12 +64,12 @@ keys = refl
 
 -- ---- readings and room: too little text (2), too few rows (10), just enough, and more than is asked for
 
-pub no-text-room : wrong reading-room.noTextRoom ≡ []
+pub no-text-room : wrong reading-room.noTextRoomCases ≡ []
 unfolding bytes comesTrue wrong rising turning unfoldedAfter sameBytes startsWord run quotedLen furtherAfter formOf paramOf frontOf paramsAfter paramsUsed
     linesAfter lineOf flat steps.readLines steps.outcomeOf readingOf textAfter
 no-text-room = refl
 
-pub no-room : wrong reading-room.noRoom ≡ []
+pub no-room : wrong reading-room.noRoomCases ≡ []
 unfolding bytes comesTrue wrong rising turning unfoldedAfter sameBytes startsWord run quotedLen furtherAfter formOf paramOf frontOf paramsAfter paramsUsed
     linesAfter lineOf flat steps.readLines steps.outcomeOf readingOf textAfter
 no-room = refl
@@ -81,37 +81,37 @@ just-enough = refl
 
 -- ---- readings that are refused for a line (3 to 7) or at the end of the text (8, 9). The text is in front, and the tables stay
 
-pub bad-begin : wrong reading-refused.badBegin ≡ []
+pub bad-begin : wrong reading-refused.badBeginCases ≡ []
 unfolding bytes comesTrue wrong rising turning unfoldedAfter sameBytes startsWord run quotedLen furtherAfter formOf paramOf frontOf paramsAfter paramsUsed
     linesAfter lineOf flat steps.readLines steps.outcomeOf readingOf textAfter
 bad-begin = refl
 
-pub too-deep : wrong reading-refused.tooDeep ≡ []
+pub too-deep : wrong reading-refused.tooDeepCases ≡ []
 unfolding bytes comesTrue wrong repeated nested rising turning unfoldedAfter sameBytes startsWord run quotedLen furtherAfter formOf paramOf frontOf
     paramsAfter paramsUsed linesAfter lineOf flat steps.readLines steps.outcomeOf readingOf textAfter
 too-deep = refl
 
-pub bad-end : wrong reading-refused.badEnd ≡ []
+pub bad-end : wrong reading-refused.badEndCases ≡ []
 unfolding bytes comesTrue wrong rising turning unfoldedAfter sameBytes startsWord run quotedLen furtherAfter formOf paramOf frontOf paramsAfter paramsUsed
     linesAfter lineOf flat steps.readLines steps.outcomeOf readingOf textAfter
 bad-end = refl
 
-pub outside : wrong reading-refused.outside ≡ []
+pub outside : wrong reading-refused.outsideCases ≡ []
 unfolding bytes comesTrue wrong rising turning unfoldedAfter sameBytes startsWord run quotedLen furtherAfter formOf paramOf frontOf paramsAfter paramsUsed
     linesAfter lineOf flat steps.readLines steps.outcomeOf readingOf textAfter
 outside = refl
 
-pub bad-line : wrong reading-refused.badLine ≡ []
+pub bad-line : wrong reading-refused.badLineCases ≡ []
 unfolding bytes comesTrue wrong rising turning unfoldedAfter sameBytes startsWord run quotedLen furtherAfter formOf paramOf frontOf paramsAfter paramsUsed
     linesAfter lineOf flat steps.readLines steps.outcomeOf readingOf textAfter
 bad-line = refl
 
-pub unclosed : wrong reading-refused.unclosed ≡ []
+pub unclosed : wrong reading-refused.unclosedCases ≡ []
 unfolding bytes comesTrue wrong rising turning unfoldedAfter sameBytes startsWord run quotedLen furtherAfter formOf paramOf frontOf paramsAfter paramsUsed
     linesAfter lineOf flat steps.readLines steps.outcomeOf readingOf textAfter
 unclosed = refl
 
-pub no-component : wrong reading-refused.noComponent ≡ []
+pub no-component : wrong reading-refused.noComponentCases ≡ []
 unfolding bytes comesTrue wrong rising turning unfoldedAfter sameBytes startsWord run quotedLen furtherAfter formOf paramOf frontOf paramsAfter paramsUsed
     linesAfter lineOf flat steps.readLines steps.outcomeOf readingOf textAfter
 no-component = refl
@@ -160,7 +160,7 @@ unfolding bytes comesTrue wrong turning sameBytes startsWord run quotedLen furth
     foldedUnits judgedFrom judgedIn parametersText propertyLines written writeAnswer
 trees = refl
 
-pub no-out-room : wrong writing.noOutRoom ≡ []
+pub no-out-room : wrong writing.noOutRoomCases ≡ []
 unfolding bytes comesTrue wrong turning sameBytes startsWord run quotedLen furtherAfter formOf tabulate broken firstBroken outFrom gather forest units
     foldedUnits judgedFrom judgedIn parametersText propertyLines written writeAnswer
 no-out-room = refl
@@ -192,7 +192,7 @@ unfolding bytes comesTrue wrong turning sameBytes startsWord run quotedLen furth
     foldedUnits judgedFrom judgedIn parametersText propertyLines written writeAnswer
 unwritable-values = refl
 
-pub not-ascii : wrong writing-refused.notAscii ≡ []
+pub not-ascii : wrong writing-refused.notAsciiCases ≡ []
 unfolding bytes comesTrue wrong turning sameBytes startsWord run quotedLen furtherAfter formOf tabulate broken firstBroken outFrom gather forest units
     foldedUnits judgedFrom judgedIn parametersText propertyLines written writeAnswer
 not-ascii = refl
@@ -204,7 +204,7 @@ in-order = refl
 
 -- ---- the twin test: twins (1), no twins (0), 14 by the table rule, 14 by a row number, and their order
 
-pub alike : wrong twins.alike ≡ []
+pub alike : wrong twins.alikeCases ≡ []
 unfolding bytes comesTrue wrong sameBytes tabulate broken firstBroken outFrom gather forest matching.alike matching.sameTreesBy twinsAnswer
 alike = refl
 
@@ -226,7 +226,7 @@ bad-numbers = refl
 
 -- ---- the count of neighbours, and what it refuses
 
-pub neighbours : wrong twins.neighbours ≡ []
+pub neighbours : wrong twins.neighbourCases ≡ []
 unfolding bytes comesTrue wrong sameBytes tabulate broken firstBroken outFrom gather forest matching.alike matching.sameTreesBy repeats neighboursAnswer
 neighbours = refl
 

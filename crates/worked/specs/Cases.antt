@@ -129,12 +129,12 @@ abbrev pub threeNumbers : Output → List ℕ
 threeNumbers o = o .answer ∷ o .place ∷ o .length ∷ []
 
 -- "answer, place, and 1 for twins, else 0"
-abbrev pub twinNumbers : Compared → List ℕ
-twinNumbers c = c .answer ∷ c .place ∷ c .twins ∷ []
+abbrev pub comparedNumbers : Compared → List ℕ
+comparedNumbers c = c .answer ∷ c .place ∷ c .twins ∷ []
 
 -- answer, place, and the count
-abbrev pub neighbourNumbers : Neighbours → List ℕ
-neighbourNumbers n = n .answer ∷ n .place ∷ n .twins ∷ []
+abbrev pub repeatNumbers : Neighbours → List ℕ
+repeatNumbers n = n .answer ∷ n .place ∷ n .twins ∷ []
 
 abbrev pub keyNumbers : Key → List ℕ
 keyNumbers Reserved = []
@@ -163,8 +163,8 @@ comesTrue (folds line before numbers after) = comesOut (foldAnswer repository li
 comesTrue (foldsStrictly line before numbers after) = comesOut (foldAnswer strict line (length before)) (foldOut strict line before) numbers after
 comesTrue (quotes value before numbers after) = comesOut (quoteAnswer value (length before)) (quoteOut value before) numbers after
 comesTrue (writes tables before numbers after) = comesOut (writeAnswer tables (length before)) (writeOut tables before) numbers after
-comesTrue (compares tables first second numbers) = sameBytes (twinNumbers (twinsAnswer tables first second)) numbers
-comesTrue (counts tables parent numbers) = sameBytes (neighbourNumbers (neighboursAnswer tables parent)) numbers
+comesTrue (compares tables first second numbers) = sameBytes (comparedNumbers (twinsAnswer tables first second)) numbers
+comesTrue (counts tables parent numbers) = sameBytes (repeatNumbers (neighboursAnswer tables parent)) numbers
 comesTrue (unfolds feed before count after) = eqb (length (unfolded feed)) count && sameBytes (laid (unfolded feed) before) after
 comesTrue (views text start len part) = sameBytes (viewed text start len) part
 comesTrue (hasKey line numbers) = sameBytes (keyNumbers (keyOf line)) numbers

@@ -6,8 +6,8 @@ use Rattle.octets.specs.Literals.{bytes}
 use Rattle.worked.specs.Cases.{bytes₀, properties₀, parameters₀, room, repeated, deep, nested, Case, case, reads, refuses}
 
 -- 3: the place is the start of the line, never the byte
-abbrev pub badBegin : List Case
-badBegin =
+abbrev pub badBeginCases : List Case
+badBeginCases =
     -- "after BEGIN: nothing, or a byte that is no key byte"; "line start; length, counts 0"
     case "BEGIN with nothing behind"
     (refuses (bytes "BEGIN:\n") (room 9 5 6 7) (3 ∷ 0 ∷ 7 ∷ 0 ∷ 0 ∷ 0 ∷ []) (bytes "BEGIN:\n" ++ 177 ∷ 178 ∷ []))
@@ -35,8 +35,8 @@ badBegin =
     ∷ []
 
 -- 4: depth 64 is read, and 65 is not; 3 before 4
-abbrev pub tooDeep : List Case
-tooDeep =
+abbrev pub tooDeepCases : List Case
+tooDeepCases =
     -- "depth 64 is read, 65 refused"
     case "64 inside each other"
     (reads (deep (repeated 64 (bytes "END:A\n"))) (room 898 260 6 7) (0 ∷ 0 ∷ 896 ∷ 64 ∷ 0 ∷ 0 ∷ [])
@@ -53,8 +53,8 @@ tooDeep =
     ∷ []
 
 -- 5: nothing open, or the rest differs from the open name
-abbrev pub badEnd : List Case
-badEnd =
+abbrev pub badEndCases : List Case
+badEndCases =
     -- "nothing open, or the rest differs from the open name": 5 and not 6 (C-22)
     case "END with nothing open"
     (refuses (bytes "END:A\n") (room 8 5 6 7) (5 ∷ 0 ∷ 6 ∷ 0 ∷ 0 ∷ 0 ∷ []) (bytes "END:A\n" ++ 176 ∷ 177 ∷ []))
@@ -94,8 +94,8 @@ badEnd =
     ∷ []
 
 -- 6: any other line with nothing open
-abbrev pub outside : List Case
-outside =
+abbrev pub outsideCases : List Case
+outsideCases =
     -- "any other line with nothing open"
     case "a property outside"
     (refuses (bytes "K:v\n") (room 6 5 6 7) (6 ∷ 0 ∷ 4 ∷ 0 ∷ 0 ∷ 0 ∷ []) (bytes "K:v\n" ++ 174 ∷ 175 ∷ []))
@@ -129,8 +129,8 @@ outside =
     ∷ []
 
 -- 7: the property rule fails
-abbrev pub badLine : List Case
-badLine =
+abbrev pub badLineCases : List Case
+badLineCases =
     -- "a key of at least one byte"
     case "a line without a key"
     (refuses (bytes "BEGIN:A\n:v\nEND:A\n") (room 19 5 6 7) (7 ∷ 8 ∷ 17 ∷ 0 ∷ 0 ∷ 0 ∷ []) (bytes "BEGIN:A\n:v\nEND:A\n" ++ 187 ∷ 188 ∷ []))
@@ -179,8 +179,8 @@ badLine =
     ∷ []
 
 -- 8: the place is the text length
-abbrev pub unclosed : List Case
-unclosed =
+abbrev pub unclosedCases : List Case
+unclosedCases =
     -- "end of text with a component open"; "text length; length, counts 0"
     case "a component left open"
     (refuses (bytes "BEGIN:A\n") (room 10 5 6 7) (8 ∷ 8 ∷ 8 ∷ 0 ∷ 0 ∷ 0 ∷ []) (bytes "BEGIN:A\n" ++ 178 ∷ 179 ∷ []))
@@ -199,8 +199,8 @@ unclosed =
     ∷ []
 
 -- 9: the place is the text length here too
-abbrev pub noComponent : List Case
-noComponent =
+abbrev pub noComponentCases : List Case
+noComponentCases =
     -- "no line but empty ones"; "same as 8"
     case "no bytes at all"
     (refuses [] (room 2 5 6 7) (9 ∷ 0 ∷ 0 ∷ 0 ∷ 0 ∷ 0 ∷ []) (bytes₀ 2))

@@ -6,8 +6,8 @@ use Rattle.octets.specs.Literals.{bytes}
 use Rattle.worked.specs.Cases.{bytes₀, properties₀, parameters₀, room, Case, case, reads, refuses}
 
 -- 2: nothing lent is changed, and the counts are 0
-abbrev pub noTextRoom : List Case
-noTextRoom =
+abbrev pub noTextRoomCases : List Case
+noTextRoomCases =
     -- "unfolded length exceeds the text lent"; "0; length needed, counts 0"; "Refusals 1 and 2 change nothing lent."
     case "a text one byte short"
     (refuses (bytes "BEGIN:A\nEND:A\n") (room 13 5 6 7) (2 ∷ 0 ∷ 14 ∷ 0 ∷ 0 ∷ 0 ∷ []) (bytes₀ 13))
@@ -36,8 +36,8 @@ noTextRoom =
     ∷ []
 
 -- 10: the text is there, no table word is changed, and the counts are those needed
-abbrev pub noRoom : List Case
-noRoom =
+abbrev pub noRoomCases : List Case
+noRoomCases =
     -- "a count exceeds its rows"; "0; length and the three counts needed"
     case "components one word short"
     (refuses (bytes "BEGIN:A\nK;P=a:v\nEND:A\n") (room 24 3 6 7) (10 ∷ 0 ∷ 22 ∷ 1 ∷ 1 ∷ 1 ∷ []) (bytes "BEGIN:A\nK;P=a:v\nEND:A\n" ++ 192 ∷ 193 ∷ []))

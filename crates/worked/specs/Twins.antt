@@ -6,8 +6,8 @@ use Rattle.tables.specs.Lent.{lent}
 use Rattle.worked.specs.Cases.{Case, case, compares, counts}
 
 -- twins: 0, 0 and 1
-abbrev pub alike : List Case
-alike =
+abbrev pub alikeCases : List Case
+alikeCases =
     -- "Two component rows of one reading are twins if their trees are equal": a row has one tree
     case "a row with itself"
     (compares (lent (bytes "A") (4294967295 ∷ 1 ∷ 0 ∷ 1 ∷ []) [] []) 0 0 (0 ∷ 0 ∷ 1 ∷ []))
@@ -245,8 +245,8 @@ badNumbers =
     ∷ []
 
 -- neighbours: 0, 0 and how many children of a row are twins of the child before them
-abbrev pub neighbours : List Case
-neighbours =
+abbrev pub neighbourCases : List Case
+neighbourCases =
     -- it has none
     case "no child"
     (counts (lent (bytes "A") (4294967295 ∷ 1 ∷ 0 ∷ 1 ∷ []) [] []) 0 (0 ∷ 0 ∷ 0 ∷ []))

@@ -77,8 +77,8 @@ trees =
     ∷ []
 
 -- 13: the length needed, and the buffer stays
-abbrev pub noOutRoom : List Case
-noOutRoom =
+abbrev pub noOutRoomCases : List Case
+noOutRoomCases =
     -- a buffer of just that length is enough
     case "exactly full"
     (writes (lent (bytes "A") (4294967295 ∷ 1 ∷ 0 ∷ 1 ∷ []) [] [])

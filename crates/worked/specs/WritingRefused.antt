@@ -177,8 +177,8 @@ unwritableValues =
     ∷ []
 
 -- 12 with its row
-abbrev pub notAscii : List Case
-notAscii =
+abbrev pub notAsciiCases : List Case
+notAsciiCases =
     -- "a byte of 128 or more to fold or write"; "in the writer its row"
     case "a value with a byte of 128"
     (writes (lent (bytes "AK" ++ 128 ∷ []) (4294967295 ∷ 1 ∷ 0 ∷ 1 ∷ []) (0 ∷ 1 ∷ 1 ∷ 2 ∷ 1 ∷ []) [])

@@ -20,10 +20,10 @@ use Rattle.walking.proofs.Sums.{total-next, total-sum, total-same, weightIn, no
 use Rattle.walking.proofs.Sizes.{Weighs, all-weigh, owners-there}
 use Rattle.printing.specs.Lines.{closedLine, beginLine, endLine, propertyLine, propertyLines, written}
 use Rattle.writing.specs.Answers.{writtenIn}
-use Rattle.writing.specs.Lengths.{marks, marksLength, lineLength}
+use Rattle.writing.specs.Lengths.{markLengths, marksLength, lineLength}
 
 -- the bytes of a tree: its two marks, its properties, its children, and the trees behind it
-by-bytes : Weighs (λ (ts : Trees). length (written ts)) (λ name properties. marks name + length (propertyLines properties))
+by-bytes : Weighs (λ (ts : Trees). length (written ts)) (λ name properties. markLengths name + length (propertyLines properties))
 unfolding written
 by-bytes =
     record {

@@ -8,12 +8,12 @@ use Rattle.printing.specs.Lines.{closedLine, beginLine, endLine}
 use Rattle.writing.specs.Places.{lineIn}
 
 -- the lines BEGIN and END of a name
-abbrev pub marks : List ℕ → ℕ
-marks name = length (closedLine (beginLine name)) + length (closedLine (endLine name))
+abbrev pub markLengths : List ℕ → ℕ
+markLengths name = length (closedLine (beginLine name)) + length (closedLine (endLine name))
 
 -- of a component row
 abbrev pub marksLength : List ℕ → List ℕ → ℕ → ℕ
-marksLength text components row = marks (nameIn text (componentsIn components) row)
+marksLength text components row = markLengths (nameIn text (componentsIn components) row)
 
 -- the line of a property row
 abbrev pub lineLength : List ℕ → List ℕ → List ℕ → ℕ → ℕ

@@ -9,7 +9,7 @@ use Rattle.tables.specs.Lent.{componentsIn, nameIn}
 use Rattle.tables.proofs.Laws.{length-rows}
 use Rattle.walking.specs.Totals.{total}
 use Rattle.walking.proofs.Rows.{name-is}
-use Rattle.writing.specs.Lengths.{marks, marksLength}
+use Rattle.writing.specs.Lengths.{markLengths, marksLength}
 use Rattle.writing.proofs.Lengths.{Counts, no-row, one-row}
 use Rattle.writing.proofs.count_marks.Statement.{statement}
 use Rattle.writing.proofs.count_marks.Tie as tie
@@ -77,7 +77,7 @@ loop-again : tie.Need-loop-again Inv-loop μ-loop
 loop-again c =
     let i = in-loop c in (
       omega (arith, i .loop-test .taken),
-      one-row _ 0 (i .before .loop .row) (i .before .loop .inv .1) (omega (arith, c .count-on .ensures, c .before .count-marks .ensures, ap marks (name-of c))),
+      one-row _ 0 (i .before .loop .row) (i .before .loop .inv .1) (omega (arith, c .count-on .ensures, c .before .count-marks .ensures, ap markLengths (name-of c))),
     )
 
 returns : tie.Need-returns Inv-loop μ-loop
