@@ -17,6 +17,7 @@ use Rattle.octets.specs.declared.Output.{Output}
 use Rattle.octets.proofs.Bools.{both}
 use Rattle.folding.specs.Answers.{ascii}
 use Rattle.tables.specs.Rows.{noParent, componentAt}
+use Rattle.tables.specs.TableRule.{byTableRule}
 use Rattle.tables.specs.Lent.{Lent, componentsIn, propertiesIn, parametersIn, brokenIn, treesIn, treeIn}
 use Rattle.tables.specs.Trees.{Parameter, Trees, none, gather, parameterOf, parametersOf, propertyOf, propertiesOf, valueOf, grown, forest}
 use Rattle.tables.specs.declared.ComponentRow.{ComponentRow}
@@ -27,7 +28,7 @@ use Rattle.tables.specs.declared.Found.the-variants.{Nothing, At}
 use Rattle.writable.specs.WritingRule.{nameFits, keyFits, noBreak, valueAscii, verdict, componentVerdict, propertyVerdict, parameterVerdict, judgedBy, judgedFrom, judgedIn}
 use Rattle.writable.specs.declared.Verdict.{Verdict}
 use Rattle.writable.specs.declared.Judged.{Judged}
-use Rattle.writing.specs.Answers.{writtenIn, byTableRule, byWritingRule, byLength, writeAnswer}
+use Rattle.writing.specs.Answers.{writtenIn, notWritten, byWritingRule, byLength, writeAnswer}
 use Rattle.demands.specs.Returning.{All, fitParameter, FitProperty, Fit, Shallow}
 
 -- ---- rows that are all so, and what is gathered of them
@@ -201,7 +202,7 @@ module _ (b : Lent) where
 
 -- ---- what Done says
 
-by-table-rule : (f : Found) (next : Output) → byTableRule f next .answer ≡ done → (f ≡ Nothing) × (next .answer ≡ done)
+by-table-rule : (f : Found) (next : Output) → byTableRule notWritten f next .answer ≡ done → (f ≡ Nothing) × (next .answer ≡ done)
 by-table-rule Nothing next e = (refl, e)
 by-table-rule (At row) next e = absurd (omega arith)
 

@@ -18,12 +18,13 @@ use Rattle.octets.proofs.Laid.{whole}
 use Rattle.folding.specs.Answers.{ascii, lineAnswer, foldAnswer}
 use Rattle.quoting.specs.Quoting.{quoted}
 use Rattle.quoting.specs.Answers.{quoteAnswer}
+use Rattle.tables.specs.TableRule.{byTableRule}
 use Rattle.tables.specs.Lent.{Lent, brokenIn}
 use Rattle.tables.specs.declared.Found.{Found}
 use Rattle.tables.specs.declared.Found.the-variants.{Nothing, At}
 use Rattle.writable.specs.WritingRule.{judgedIn}
 use Rattle.writable.specs.declared.Judged.{Judged}
-use Rattle.writing.specs.Answers.{writtenIn, byTableRule, byWritingRule, byLength, writeAnswer}
+use Rattle.writing.specs.Answers.{writtenIn, notWritten, byWritingRule, byLength, writeAnswer}
 use Rattle.demands.specs.Outputs.{FitTables, RoomDecides}
 use Rattle.demands.proofs.Fronts.{untouched, same-laid}
 
@@ -153,7 +154,7 @@ quote-room value = room-decides (length value ≤ longest) (quoted value) (quote
 
 module _ (b : Lent) where
   answers : {f : Found} {j : Judged} → brokenIn b ≡ f → judgedIn b ≡ j → (room : ℕ)
-      → writeAnswer b room ≡ byTableRule f (byWritingRule j (byLength (length (writtenIn b)) room))
+      → writeAnswer b room ≡ byTableRule notWritten f (byWritingRule j (byLength (length (writtenIn b)) room))
   unfolding writeAnswer
   answers x y room = rw (x, y)
 

@@ -3,13 +3,11 @@
 -- Assumes nothing.
 use Prim.Native.Nat.{ℕ, _+_}
 use lib.ListN.{length}
-use lib.Dec.{ltb}
 use Rattle.octets.specs.Choice.{pick}
 use Rattle.octets.specs.Answers.{deepest, done, badTable}
 use Rattle.tables.specs.Lent.{Lent, componentsIn, propertiesIn, parametersIn, brokenIn}
 use Rattle.tables.specs.Trees.{Trees, none, tree, childrenOf, forest}
-use Rattle.tables.specs.declared.Found.{Found}
-use Rattle.tables.specs.declared.Found.the-variants.{Nothing, At}
+use Rattle.tables.specs.TableRule.{byTableRule, byNumber}
 use Rattle.matching.specs.Alike.{sameTrees}
 use Rattle.twins.specs.declared.Spot.{Spot}
 use Rattle.neighbours.specs.declared.Neighbours.{Neighbours}
@@ -36,17 +34,12 @@ firstChild parent = record { row = parent + 1; cursor = record { property = 0; p
 abbrev pub neighbours : ℕ → ℕ → ℕ → Neighbours
 neighbours answer place twins = record { answer = answer; place = place; twins = twins }
 
--- 14 for the first row that breaks the table rule
-abbrev pub byTableRule : Found → Neighbours → Neighbours
-byTableRule Nothing next = next
-byTableRule (At row) next = neighbours badTable row 0
-
--- 14 with a number that is not below the component count
-abbrev pub byNumber : ℕ → ℕ → Neighbours → Neighbours
-byNumber rows number next = pick (ltb number rows) next (neighbours badTable number 0)
+-- 14 with a row that breaks the table rule, or with a number that is not below the component count
+abbrev pub notCounted : ℕ → Neighbours
+notCounted place = neighbours badTable place 0
 
 unfoldable pub neighboursAnswer : Lent → ℕ → Neighbours
 neighboursAnswer b parent =
-    byTableRule (brokenIn b)
-    (byNumber (length (componentsIn (b .components))) parent
+    byTableRule notCounted (brokenIn b)
+    (byNumber notCounted (length (componentsIn (b .components))) parent
     (neighbours done 0 (repeats none (childrenIn b parent))))

@@ -101,3 +101,14 @@ broken textLength components properties parameters =
     (orElse (brokenComponent textLength 0 [] components)
     (orElse (brokenProperty textLength (length components) (length components) properties)
     (brokenParameter textLength (length properties) (length components + length properties) 0 parameters)))
+
+-- ---- in the answers of a call that tests it
+
+-- the refusal of the first row that breaks the rule, or else what comes next
+abbrev pub byTableRule : {A : Type 0} → (ℕ → A) → Found → A → A
+byTableRule refused Nothing next = next
+byTableRule refused (At row) next = refused row
+
+-- "then a row number not below the component count"
+abbrev pub byNumber : {A : Type 0} → (ℕ → A) → ℕ → ℕ → A → A
+byNumber refused rows number next = pick (ltb number rows) next (refused number)

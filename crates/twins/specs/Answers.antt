@@ -3,12 +3,10 @@
 use Prim.Native.Nat.{ℕ}
 use mathlib.Core.Bool.{Bool}
 use lib.ListN.{length}
-use lib.Dec.{ltb}
 use Rattle.octets.specs.Choice.{pick}
 use Rattle.octets.specs.Answers.{done, badTable}
 use Rattle.tables.specs.Lent.{Lent, componentsIn, brokenIn, treeIn}
-use Rattle.tables.specs.declared.Found.{Found}
-use Rattle.tables.specs.declared.Found.the-variants.{Nothing, At}
+use Rattle.tables.specs.TableRule.{byTableRule, byNumber}
 use Rattle.matching.specs.Alike.{sameTrees}
 use Rattle.twins.specs.declared.Compared.{Compared}
 
@@ -24,18 +22,14 @@ levels = 63
 abbrev pub twinRows : Lent → ℕ → ℕ → Bool
 twinRows b first second = sameTrees (treeIn b levels first) (treeIn b levels second)
 
--- 14 for the first row that breaks the table rule
-abbrev pub byTableRule : Found → Compared → Compared
-byTableRule Nothing next = next
-byTableRule (At row) next = compared badTable row 0
+-- 14 with a row that breaks the table rule, or with "a row number not below the component count"
+abbrev pub noTwins : ℕ → Compared
+noTwins place = compared badTable place 0
 
--- "then a row number not below the component count gives 14 with that number, the first number first"
-abbrev pub byNumber : ℕ → ℕ → Compared → Compared
-byNumber rows number next = pick (ltb number rows) next (compared badTable number 0)
-
+-- "the first number first"
 unfoldable pub twinsAnswer : Lent → ℕ → ℕ → Compared
 twinsAnswer b first second =
-    byTableRule (brokenIn b)
-    (byNumber (length (componentsIn (b .components))) first
-    (byNumber (length (componentsIn (b .components))) second
+    byTableRule noTwins (brokenIn b)
+    (byNumber noTwins (length (componentsIn (b .components))) first
+    (byNumber noTwins (length (componentsIn (b .components))) second
     (compared done 0 (pick (twinRows b first second) 1 0))))

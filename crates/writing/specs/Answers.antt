@@ -8,8 +8,7 @@ use Rattle.octets.specs.Choice.{pick}
 use Rattle.octets.specs.Answers.{longest, tooLong, notAscii, badTable, unwritable, output, roomAnswer, outAfter}
 use Rattle.octets.specs.declared.Output.{Output}
 use Rattle.tables.specs.Lent.{Lent, brokenIn, treesIn}
-use Rattle.tables.specs.declared.Found.{Found}
-use Rattle.tables.specs.declared.Found.the-variants.{Nothing, At}
+use Rattle.tables.specs.TableRule.{byTableRule}
 use Rattle.writable.specs.WritingRule.{judgedIn}
 use Rattle.writable.specs.declared.Judged.{Judged}
 use Rattle.printing.specs.Lines.{written}
@@ -18,10 +17,9 @@ use Rattle.printing.specs.Lines.{written}
 abbrev pub writtenIn : Lent → List ℕ
 writtenIn b = written (treesIn b)
 
--- 14 for the first row that breaks the table rule
-abbrev pub byTableRule : Found → Output → Output
-byTableRule Nothing next = next
-byTableRule (At row) next = output badTable row 0
+-- 14 with the first row that breaks the table rule
+abbrev pub notWritten : ℕ → Output
+notWritten row = output badTable row 0
 
 -- then the first row with 15 or 12
 abbrev pub byWritingRule : Judged → Output → Output
@@ -34,7 +32,7 @@ abbrev pub byLength : ℕ → ℕ → Output
 byLength needed room = pick (leb needed longest) (roomAnswer needed room) (output tooLong 0 0)
 
 unfoldable pub writeAnswer : Lent → ℕ → Output
-writeAnswer b room = byTableRule (brokenIn b) (byWritingRule (judgedIn b) (byLength (length (writtenIn b)) room))
+writeAnswer b room = byTableRule notWritten (brokenIn b) (byWritingRule (judgedIn b) (byLength (length (writtenIn b)) room))
 
 abbrev pub writeOut : Lent → List ℕ → List ℕ
 writeOut b old = outAfter (writeAnswer b (length old)) (writtenIn b) old
