@@ -171,6 +171,41 @@ fn quote() {
     say_output(quoting::quote_special_chars(b"a,b", &mut short));
 }
 
+// The first line that the lister prints for so many times these words, between what stands before and behind them.
+fn list_repeated(before: &[u8], words: &[u8], times: usize, behind: &[u8]) {
+    let mut feed = [0u8; 16_400];
+    let opened = trial::repeat(before, 1, &mut feed, 0);
+    let filled = trial::repeat(words, times, &mut feed, opened);
+    let end = trial::repeat(behind, 1, &mut feed, filled);
+    let mut out = [0u8; 32_768];
+    let n = listing::list_feed(octets::view(&feed, 0, end), &mut out);
+    let listed = octets::view(&out, 0, n);
+    say(octets::view(listed, 0, octets::find_byte(listed, 0, b'\n')));
+    say(b"\n");
+}
+
+fn list_bytes() {
+    say(b"listing 16384 bytes: ");
+    list_repeated(b"BEGIN:A\nK:", b"a", 16_367, b"\nEND:A\n");
+    say(b"listing 16385 bytes: ");
+    list_repeated(b"BEGIN:A\nK:", b"a", 16_368, b"\nEND:A\n");
+}
+
+fn list_rows() {
+    say(b"listing 128 components: ");
+    list_repeated(b"", b"BEGIN:A\nEND:A\n", 128, b"");
+    say(b"listing 129 components: ");
+    list_repeated(b"", b"BEGIN:A\nEND:A\n", 129, b"");
+    say(b"listing 512 properties: ");
+    list_repeated(b"BEGIN:A\n", b"K\n", 512, b"END:A\n");
+    say(b"listing 513 properties: ");
+    list_repeated(b"BEGIN:A\n", b"K\n", 513, b"END:A\n");
+    say(b"listing 512 parameters: ");
+    list_repeated(b"BEGIN:A\nK", b";P", 512, b"\nEND:A\n");
+    say(b"listing 513 parameters: ");
+    list_repeated(b"BEGIN:A\nK", b";P", 513, b"\nEND:A\n");
+}
+
 fn main() {
     let mut feed = [b'a'; trial::OVER];
     let mut text = [0u8; trial::OVER];
@@ -196,4 +231,6 @@ fn main() {
     fold_76();
     fold_76_as_the_repository();
     quote();
+    list_bytes();
+    list_rows();
 }

@@ -1,6 +1,9 @@
 -- Listings by example, held against document 01, "Examples". Assumes nothing.
+use Prim.Native.Nat.{ℕ, _<_}
 use mathlib.Core.Path.{_≡_, refl}
-use lib.ListN.{replicate}
+use mathlib.Core.List.{List}
+use lib.ListN.{length, replicate, length-replicate}
+use borrow.Author.Tests.{lt-leb}
 use Rattle.octets.specs.Literals.{bytes}
 use Rattle.octets.specs.Runs as runs
 use Rattle.octets.specs.Words.{sameBytes, startsWord}
@@ -14,9 +17,10 @@ use Rattle.tables.specs.Lent.{Lent, lent}
 use Rattle.tables.specs.Rows.{flat}
 use Rattle.nesting.specs.Steps.{readLines, outcomeOf}
 use Rattle.reading.specs.Answers.{readingOf, textAfter}
+use Rattle.reading.specs.Lent.{roomIn}
 use Rattle.listing.specs.Texts.{digits}
 use Rattle.listing.specs.Lines.{listedRows}
-use Rattle.listing.specs.Listing.{listing}
+use Rattle.listing.specs.Listing.{listing, rooms, listingOf}
 
 -- room for 99 bytes of text, two components, three properties and two parameters
 abbrev before : Lent
@@ -34,3 +38,12 @@ refused : listing (bytes "BEGIN:A\nEND:B\n") before ≡ bytes "refused 5 8 14 0 
 unfolding bytes unfoldedAfter runs.run sameBytes startsWord quotedLen furtherAfter formOf paramOf frontOf paramsAfter paramsUsed linesAfter lineOf flat
     readLines outcomeOf readingOf textAfter digits listedRows
 refused = refl
+
+-- "standard input to 16,384 bytes (more is refused with 1 and five zeros)"
+over : (feed : List ℕ) → 16384 < length feed → listingOf feed ≡ bytes "refused 1 0 0 0 0 0\n"
+unfolding bytes digits listingOf
+over feed h = rw (lt-leb (length feed) 16384 h)
+
+-- "rows for 128 components, 512 properties and 512 parameters"
+rows : (length (rooms .text) ≡ 16384) × (roomIn rooms ≡ record { components = 128; properties = 512; parameters = 512 })
+rows = (length-replicate {A = ℕ} 16384 0, refl)
