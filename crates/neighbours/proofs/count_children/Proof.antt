@@ -53,7 +53,7 @@ end-of-requires : tie.Need-end-of-requires Inv-loop μ-loop
 end-of-requires c κs = c .before .before .before .before .pre .1
 
 child-of-requires : tie.Need-child-of-requires Inv-loop μ-loop
-child-of-requires c κs = c .before .before .before .before .before .pre .1
+child-of-requires c κs = let s = c .before .before .before .before .before in s .pre .1
 
 returns : tie.Need-returns Inv-loop μ-loop
 returns c =

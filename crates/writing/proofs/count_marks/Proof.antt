@@ -26,8 +26,11 @@ At R = R Inv-loop μ-loop
 abbrev start-at : At tie.After-component-rows → At tie.Start
 start-at c = c .before .before .before
 
+abbrev row-of : At tie.After-count-on → At tie.After-component-at
+row-of c = c .before .before .before .before .before
+
 abbrev in-loop : At tie.After-count-on → At tie.In-loop
-in-loop c = c .before .before .before .before .before .before
+in-loop c = row-of c .before
 
 -- the rows that are counted are the rows there are
 rows-are : (c : At tie.After-component-rows) → c .component-rows .result ≡ length (componentsIn (start-at c .args .components .now))
@@ -41,7 +44,7 @@ name-of c =
     let a = start-at (i .before .before) .args in
     c .before .before .view .ensures .0
     ∙ name-is (a .text .now) (a .components .now) (i .before .loop .row) (omega (arith, i .loop-test .taken, rows-are (i .before .before)))
-    (c .before .before .before .before .before .component-at .ensures)
+    (row-of c .component-at .ensures)
 
 component-rows-requires : tie.Need-component-rows-requires Inv-loop μ-loop
 component-rows-requires c κs = search needs
