@@ -3,6 +3,7 @@ pub mod Laid
 pub mod Bytes
 pub mod Runs
 pub mod Numbers
+pub mod Classes
 pub mod Words
 pub mod Keys
 pub mod Views

@@ -10,6 +10,8 @@ ghost use Rattle.octets.specs.Bytes.{capital, common, keyByte, lowered, 
 ghost use Rattle.octets.specs.Laid.{laid, counted, Lays};
 ghost use Rattle.octets.specs.Answers.{roomAnswer};
 ghost use Rattle.octets.specs.Runs.{run};
+ghost use Rattle.octets.specs.Numbers.{marks, eight};
+ghost use Rattle.octets.specs.Classes.{member};
 ghost use Rattle.octets.specs.Words.{sameBytes, startsWord};
 ghost use Rattle.octets.specs.Keys.{keyOf, opensReserved, reserved, standsAlone, stopsAt};
 ghost use Rattle.octets.specs.Views.{viewed, viewedAt, bytesOn};
@@ -129,30 +131,31 @@ pub fn key_run(line: &[u8]) -> usize
     key_run_on(line, i)
 }
 
-// Whether the n bytes from `at` on are capital letters. Eight are looked at together, and so are some behind the n.
-pub fn all_capitals(text: &[u8], at: usize, n: usize) -> bool
-    requires { ⌜ at + n + 8 ≤ length (now text) ⌝ }
-    ensures { λ r. ⌜ r ≡ leb n (run capital (drop at (now (text .entry)))) ⌝ }
-{
-    let mut i: usize = 0;
-    while i < n {
-        let marked = eights::marks_of_others(text, at + i);
-        if marked != 0 {
-            return n - i <= eights::first_mark(marked);
-        }
-        i += 8;
-    }
-    true
+// A class of bytes that eight are asked for at once.
+pub enum Class {
+    Capital,
+    Common,
 }
 
-// Whether the n bytes from `at` on are common, in the same way.
-pub fn all_common(text: &[u8], at: usize, n: usize) -> bool
+// Marks each of the 8 bytes from `at` on that is not of the class.
+fn marks_outside(class: Class, text: &[u8], at: usize) -> u64
+    requires { ⌜ at + 8 ≤ length (now text) ⌝ }
+    ensures { λ r. ⌜ r ≡ marks (member class) (eight (now (text .entry)) at) ⌝ }
+{
+    match class {
+        Class::Capital => eights::marks_of_others(text, at),
+        Class::Common => eights::marks_of_uncommon(text, at),
+    }
+}
+
+// Whether the n bytes from `at` on are of the class. Eight are looked at together, and so are some behind the n.
+pub fn all_of(class: Class, text: &[u8], at: usize, n: usize) -> bool
     requires { ⌜ at + n + 8 ≤ length (now text) ⌝ }
-    ensures { λ r. ⌜ r ≡ leb n (run common (drop at (now (text .entry)))) ⌝ }
+    ensures { λ r. ⌜ r ≡ leb n (run (member class) (drop at (now (text .entry)))) ⌝ }
 {
     let mut i: usize = 0;
     while i < n {
-        let marked = eights::marks_of_uncommon(text, at + i);
+        let marked = marks_outside(class, text, at + i);
         if marked != 0 {
             return n - i <= eights::first_mark(marked);
         }

@@ -11,6 +11,7 @@ ghost use Rattle.folding.specs.Answers.{ascii};
 ghost use Rattle.tables.specs.Rows.{propertySize, parameterSize};
 ghost use Rattle.tables.specs.Lent.{lent, componentsIn, propertiesIn, parametersIn};
 ghost use Rattle.writable.specs.WritingRule.{nameFits, keyFits, noBreak, clean, presentFits, verdict, componentVerdict, propertyVerdict, parameterVerdict, judgedFrom, judgedIn};
+use octets::Class;
 use tables::ComponentRow;
 use tables::ParameterRow;
 use tables::PropertyRow;
@@ -36,7 +37,7 @@ fn is_capital(text: &[u8], start: u32, len: u32) -> bool
     if !octets::eight_behind(text, start, len) {
         return false;
     }
-    octets::all_capitals(text, start as usize, len as usize)
+    octets::all_of(Class::Capital, text, start as usize, len as usize)
 }
 
 // Whether it is seen to be made of bytes that stop no value, as most values are.
@@ -46,7 +47,7 @@ fn is_common(text: &[u8], start: u32, len: u32) -> bool
     if !octets::eight_behind(text, start, len) {
         return false;
     }
-    octets::all_common(text, start as usize, len as usize)
+    octets::all_of(Class::Common, text, start as usize, len as usize)
 }
 
 // Whether a part of the text is made of key bytes.

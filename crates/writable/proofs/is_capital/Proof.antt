@@ -22,15 +22,15 @@ eight-behind-requires c κs = search needs
 returns : tie.Need-returns
 returns c = λ e. cc
 
-all-capitals-requires : tie.Need-all-capitals-requires
-all-capitals-requires c κs = behind c
+all-of-requires : tie.Need-all-of-requires
+all-of-requires c κs = behind c
 
 returns-2 : tie.Need-returns-2
 returns-2 c =
     λ e.
     let a = c .before .before .before .before .args in
-    view-only capital keyByte capital-key (a .text .now) (a .start) (a .len) (omega (arith, behind (c .before))) (sym (c .all-capitals .ensures) ∙ e)
+    view-only capital keyByte capital-key (a .text .now) (a .start) (a .len) (omega (arith, behind (c .before))) (sym (c .all-of .ensures) ∙ e)
 
 pub is-capital-spec : {M : Type 1} → statement M
 is-capital-spec =
-    tie.close (tie.spec eight-behind-requires returns all-capitals-requires returns-2)
+    tie.close (tie.spec eight-behind-requires returns all-of-requires returns-2)

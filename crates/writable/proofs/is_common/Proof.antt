@@ -23,14 +23,14 @@ eight-behind-requires c κs = search needs
 returns : tie.Need-returns
 returns c = λ e. cc
 
-all-common-requires : tie.Need-all-common-requires
-all-common-requires c κs = behind c
+all-of-requires : tie.Need-all-of-requires
+all-of-requires c κs = behind c
 
 returns-2 : tie.Need-returns-2
 returns-2 c =
     λ e.
     let a = c .before .before .before .before .args in
-    view-only common clean common-clean (a .text .now) (a .start) (a .len) (omega (arith, behind (c .before))) (sym (c .all-common .ensures) ∙ e)
+    view-only common clean common-clean (a .text .now) (a .start) (a .len) (omega (arith, behind (c .before))) (sym (c .all-of .ensures) ∙ e)
 
 pub is-common-spec : {M : Type 1} → statement M
-is-common-spec = tie.close (tie.spec eight-behind-requires returns all-common-requires returns-2)
+is-common-spec = tie.close (tie.spec eight-behind-requires returns all-of-requires returns-2)
