@@ -1,4 +1,4 @@
--- Numbers, views, keys and room by example, held against document 01. Assumes nothing.
+-- Numbers, views, keys and room by example, held against document 01, and the number of document 02, request 1. Assumes nothing.
 use Prim.Native.Nat.{ℕ}
 use mathlib.Core.Path.{_≡_, refl}
 use mathlib.Core.List.{List, [], _∷_, map}
@@ -11,10 +11,11 @@ use Rattle.octets.specs.Answers as answers
 use Rattle.octets.specs.Answers.{output, roomAnswer, outAfter}
 use Rattle.octets.specs.declared.Key.the-variants.{Reserved, Run}
 
--- "No. | Name": the sixteen names in the order of the table, each with its number
+-- "No. | Name": the sixteen names in the order of the table, each with its number, and "16 BadEscape" (document 02, request 1)
 numbered : (answers.done ∷ answers.tooLong ∷ answers.noTextRoom ∷ answers.badBegin ∷ answers.tooDeep ∷ answers.badEnd ∷ answers.outside ∷ answers.badLine
-    ∷ answers.unclosed ∷ answers.noComponent ∷ answers.noRoom ∷ answers.hasBreak ∷ answers.notAscii ∷ answers.noOutRoom ∷ answers.badTable ∷ answers.unwritable ∷ [])
-    ≡ (0 ∷ 1 ∷ 2 ∷ 3 ∷ 4 ∷ 5 ∷ 6 ∷ 7 ∷ 8 ∷ 9 ∷ 10 ∷ 11 ∷ 12 ∷ 13 ∷ 14 ∷ 15 ∷ [])
+    ∷ answers.unclosed ∷ answers.noComponent ∷ answers.noRoom ∷ answers.hasBreak ∷ answers.notAscii ∷ answers.noOutRoom ∷ answers.badTable ∷ answers.unwritable
+    ∷ answers.badEscape ∷ [])
+    ≡ (0 ∷ 1 ∷ 2 ∷ 3 ∷ 4 ∷ 5 ∷ 6 ∷ 7 ∷ 8 ∷ 9 ∷ 10 ∷ 11 ∷ 12 ∷ 13 ∷ 14 ∷ 15 ∷ 16 ∷ [])
 numbered = refl
 
 -- a start and a length: inside, up to the end, empty at the end; then with a length over the end, from the front too, and with a start over the end

@@ -7,10 +7,10 @@ use native.Mathlib.Nat.{zero-add, add-zero, suc-add, mul-one}
 use native.Mathlib.Omega.{arith}
 use lib.ListN.{length, getD, drop}
 use lib.Seq.{drop-cons}
-use lib.Dec.{eqb, leb, lit<, lit≤}
+use lib.Dec.{eqb, leb, ltb, lit<, lit≤}
 use lib.Bits.{bitAnd, bitOr, bitXor, and-le-l, and-le-r, and-zero-l, or-zero-l, xor-zero-l, and-block, or-block, or-lt, xor-block, xor-lt, xor-self, xor-add-and, shifted-half, shifted-even}
 use lib.Count.{trailingZeros, trailing-of-zero}
-use borrow.Author.Tests.{eqb-true, eqb-false, eq-eqb, ne-eqb, leb-true, leb-false, le-leb, lt-leb}
+use borrow.Author.Tests.{eqb-true, eqb-false, eq-eqb, ne-eqb, leb-true, leb-false, le-leb, lt-leb, lt-ltb, le-ltb}
 use Rattle.octets.specs.Choice.{pick}
 use Rattle.octets.specs.Bytes.{capital, common, other}
 use Rattle.octets.specs.Runs.{run}
@@ -224,16 +224,28 @@ module _ (class : ℕ → Bool) (a : List ℕ) (at : ℕ) (h : at + 8 ≤ length
     pub at-most : trailingZeros 64 m / 8 ≤ 8
     at-most = omega (arith, told, within class (eight a at))
 
-    pub ends-here : (m ≡ 0 → ⊥) → run class (drop at a) ≡ trailingZeros 64 m / 8
-    ends-here some =
+    short : (m ≡ 0 → ⊥) → run class (eight a at) < 8
+    short some =
         let never : run class (eight a at) ≡ 8 → ⊥ = λ w. some (e ∙ no-mark class (eight a at) w) in
-        let short : run class (eight a at) < 8 = omega (arith, within class (eight a at), never) in
-        ap (run class) in-front ∙ ends-inside class (eight a at) (drop (at + 8) a) short ∙ sym told
+        omega (arith, within class (eight a at), never)
+
+    pub ends-here : (m ≡ 0 → ⊥) → run class (drop at a) ≡ trailingZeros 64 m / 8
+    ends-here some = ap (run class) in-front ∙ ends-inside class (eight a at) (drop (at + 8) a) (short some) ∙ sym told
 
     pub goes-on : m ≡ 0 → run class (drop at a) ≡ 8 + run class (drop (at + 8) a)
     goes-on none =
         let full : run class (eight a at) ≡ 8 = sym told ∙ ap (λ (n : ℕ). trailingZeros 64 n / 8) none ∙ ap (λ (n : ℕ). n / 8) (trailing-of-zero 64) in
         ap (run class) in-front ∙ through class (eight a at) (drop (at + 8) a) full
+
+    -- any mark at all: the run ends inside the eight
+    pub any-mark : not (eqb m 0) ≡ ltb (run class (drop at a)) 8
+    any-mark = go (eqb m 0) refl
+      where
+        go : (t : Bool) → eqb m 0 ≡ t → not t ≡ ltb (run class (drop at a)) 8
+        go true t = sym (le-ltb (run class (drop at a)) 8 (omega (arith, goes-on (eqb-true m 0 t))))
+        go false t =
+            let some = eqb-false m 0 t in
+            sym (lt-ltb (run class (drop at a)) 8 (omega (arith, ends-here some, told, short some)))
 
 -- ---- a loop over eights for whether n bytes from a place on are of a class: those before i are, and it may look past the n
 

@@ -61,6 +61,10 @@ badTable = 14
 abbrev pub unwritable : ℕ
 unwritable = 15
 
+-- document 02, request 1
+abbrev pub badEscape : ℕ
+badEscape = 16
+
 -- the three numbers of a fold, of quoting and of the writer
 abbrev pub output : ℕ → ℕ → ℕ → Output
 output answer place length = record { answer = answer; place = place; length = length }

@@ -56,6 +56,8 @@ pub const BAD_TABLE: u32 = 14;
 
 pub const UNWRITABLE: u32 = 15;
 
+pub const BAD_ESCAPE: u32 = 16;
+
 // What a fold, quoting or the writer answers: on NO_OUT_ROOM the length is the one needed.
 pub struct Output {
     pub answer: u32,
@@ -173,6 +175,14 @@ pub fn eight_behind(text: &[u8], start: u32, len: u32) -> bool
 
 // How many bytes count as near: most lines are shorter.
 const NEAR: usize = 256;
+
+// Whether one of the 8 bytes from `at` on is b.
+pub fn any_of_8(a: &[u8], at: usize, b: u8) -> bool
+    requires { ⌜ at + 8 ≤ length (now a) ⌝ }
+    ensures { λ r. ⌜ r ≡ ltb (run (other b) (drop at (now (a .entry)))) 8 ⌝ }
+{
+    eights::marks_of(a, at, b) != 0
+}
 
 // Whether one of the 64 bytes from `at` on is b. The loop has no branch, so that it becomes vector code.
 pub fn any_of_64(a: &[u8], at: usize, b: u8) -> bool

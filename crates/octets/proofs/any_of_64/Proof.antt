@@ -1,32 +1,18 @@
 -- `octets::any_of_64`: the run of other bytes ends inside the block, or not.
-use Prim.Native.Nat.{ℕ, _≤_, _<_, _+_, _-_}
+use Prim.Native.Nat.{ℕ, _≤_, _+_, _-_}
 use mathlib.Core.Path.{_≡_, refl, sym, ap, _∙_}
-use mathlib.Core.Bool.{Bool, true, false, not}
-use mathlib.Core.List.{List}
+use mathlib.Core.Bool.{not}
 use native.Mathlib.Omega.{arith}
 use mir.Val.{boolByte}
 use lib.Bits.{bitOr}
-use lib.ListN.{length, getD, drop}
+use lib.ListN.{getD, drop}
 use lib.Dec.{eqb, ltb}
-use borrow.Author.Tests.{lt-ltb, le-ltb}
+use borrow.Author.Tests.{le-ltb}
 use Rattle.octets.specs.Bytes.{other}
 use Rattle.octets.specs.Runs.{run}
-use Rattle.octets.proofs.Runs.{on, stop, passed}
-use Rattle.octets.proofs.Hits.{onward, told}
+use Rattle.octets.proofs.Hits.{onward, told, ends}
 use Rattle.octets.proofs.any_of_64.Statement.{statement}
 use Rattle.octets.proofs.any_of_64.Tie as tie
-
--- a run that goes as far as j ends there exactly where b stands
-ends : (a : List ℕ) (at j b : ℕ) → at + j < length a → j ≤ run (other b) (drop at a)
-    → eqb (getD a (at + j) 0) b ≡ ltb (run (other b) (drop at a)) (j + 1)
-ends a at j b h k = go (eqb (getD a (at + j) 0) b) refl
-  where
-    r : j + run (other b) (drop (at + j) a) ≡ run (other b) (drop at a)
-    r = passed (other b) a at j k
-
-    go : (t : Bool) → eqb (getD a (at + j) 0) b ≡ t → t ≡ ltb (run (other b) (drop at a)) (j + 1)
-    go true e = sym (lt-ltb (run (other b) (drop at a)) (j + 1) (omega (arith, r, stop (other b) a (at + j) h (ap not e))))
-    go false e = sym (le-ltb (run (other b) (drop at a)) (j + 1) (omega (arith, r, on (other b) a (at + j) h (ap not e))))
 
 abbrev Inv-loop : tie.InvT-loop
 Inv-loop a at b hit₀ j₀ hit j = (j ≤ 64) × (hit ≡ boolByte (ltb (run (other b) (drop at a)) j))
@@ -56,7 +42,7 @@ loop-again : tie.Need-loop-again Inv-loop μ-loop
 loop-again c =
     let l = c .before .before in
     let s = l .before .args in let n = run (other (s .b)) (drop (s .at) (s .a .now)) in let t = eqb (getD (s .a .now) (s .at + l .loop .j) 0) (s .b) in
-    (omega arith, ap (λ (h : ℕ). bitOr h (boolByte t)) (l .loop .inv .1) ∙ onward n (l .loop .j) t (ends (s .a .now) (s .at) (l .loop .j) (s .b) (omega arith)))
+    (omega arith, ap (λ (h : ℕ). bitOr h (boolByte t)) (l .loop .inv .1) ∙ onward n (l .loop .j) t (ends (other (s .b)) (s .a .now) (s .at) (l .loop .j) t refl (omega arith)))
 
 returns : tie.Need-returns Inv-loop μ-loop
 returns c = let l = c .before .loop in let s = c .before .before .args in

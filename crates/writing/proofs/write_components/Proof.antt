@@ -4,10 +4,10 @@ use mathlib.Core.Path.{sym, ap, _∙_}
 use lib.ListN.{length}
 use Rattle.octets.specs.Answers.{outAfter}
 use Rattle.octets.specs.declared.Output.{Output}
-use Rattle.octets.proofs.Answers.{kept}
+use Rattle.octets.proofs.Answers.{kept, told-no-done}
 use Rattle.tables.specs.Lent.{Lent, lent}
 use Rattle.writing.specs.Answers.{writtenIn}
-use Rattle.writing.proofs.Answers.{broken-row, unwritable-row, row-not-ascii, fitting, told-no-done}
+use Rattle.writing.proofs.Answers.{broken-row, unwritable-row, row-not-ascii, fitting}
 use Rattle.writing.proofs.write_components.Statement.{statement}
 use Rattle.writing.proofs.write_components.Tie as tie
 

@@ -2,11 +2,10 @@
 use borrow.Author.Needs.{needs}
 use mathlib.Core.Path.{refl, sym, _∙_}
 use lib.ListN.{length}
-use Rattle.octets.proofs.Answers.{kept, written}
+use Rattle.octets.proofs.Answers.{kept, written, too-long, by-room, told-no-done}
 use Rattle.tables.specs.Lent.{Lent, lent}
 use Rattle.walking.proofs.Rows.{ruled}
 use Rattle.writing.specs.Answers.{writtenIn}
-use Rattle.writing.proofs.Answers.{too-long, by-room, told-no-done}
 use Rattle.writing.proofs.write_fitting.Statement.{statement}
 use Rattle.writing.proofs.write_fitting.Tie as tie
 

@@ -1,0 +1,5 @@
+pub mod Text
+pub mod Grammar
+pub mod Answers
+pub mod Loose
+pub mod Turns
