@@ -54,29 +54,48 @@ pub fn feed(kind: &str, bytes: usize) -> String {
         "one-line" => one_line(bytes),
         "hostile" => hostile(bytes),
         "doubled" => doubled(bytes),
+        "copied" => copied(bytes),
+        "commas" => commas(bytes),
         _ => panic!("no feed is called {kind}"),
     }
 }
 
+/// Where the dice of every calendar begin.
+const SEED: u64 = 0x9E37_79B9_7F4A_7C15;
+
 /// Events of ten properties, one of them quoted and one folded.
 fn calendar(end: &str, bytes: usize) -> String {
-    let mut dice = Dice(0x9E37_79B9_7F4A_7C15);
-    wrapped("VCALENDAR", bytes, end, |n| event(&mut dice, n, end))
+    let mut dice = Dice(SEED);
+    wrapped("VCALENDAR", bytes, end, |n| event(&mut dice, n, end, |note| format!("DESCRIPTION:{note}")))
 }
 
 /// The same, each event twice.
 fn doubled(bytes: usize) -> String {
-    let mut dice = Dice(0x9E37_79B9_7F4A_7C15);
+    let mut dice = Dice(SEED);
     let mut once = String::new();
     wrapped("VCALENDAR", bytes, "\r\n", |n| {
         if n % 2 == 0 {
-            once = event(&mut dice, n, "\r\n");
+            once = event(&mut dice, n, "\r\n", |note| format!("DESCRIPTION:{note}"));
         }
         once.clone()
     })
 }
 
-fn event(dice: &mut Dice, n: usize, end: &str) -> String {
+/// A calendar and its copy by an agency that escapes commas. A name that the Rust does not know: it would unescape a DESCRIPTION when it reads it.
+fn copied(bytes: usize) -> String {
+    let events = bytes / 2 / 400;
+    let one = |note: fn(String) -> String| {
+        let mut dice = Dice(SEED);
+        let all: String = (0..events).map(|n| event(&mut dice, n, "\r\n", note)).collect();
+        format!("BEGIN:VCALENDAR\r\n{all}END:VCALENDAR\r\n")
+    };
+    let plain = one(|note| format!("NOTE:{note}"));
+    let copy = one(|note| format!("NOTE:{}", note.replace(',', "\\,")));
+    format!("BEGIN:PAIR\r\n{plain}{copy}END:PAIR\r\n")
+}
+
+/// An event whose last line is made of a sentence.
+fn event(dice: &mut Dice, n: usize, end: &str, last: fn(String) -> String) -> String {
     let (day, hour) = (10 + dice.below(20), 10 + dice.below(10));
     let lines = [
         "BEGIN:VEVENT".into(),
@@ -89,7 +108,7 @@ fn event(dice: &mut Dice, n: usize, end: &str) -> String {
         format!("CLASS:{}", dice.pick(&["PUBLIC", "PRIVATE"])),
         format!("SEQUENCE:{}", dice.below(7)),
         format!("ORGANIZER;CN=\"{}\":mailto:desk{}@agency.example", dice.pick(&NAMES), dice.below(9)),
-        format!("DESCRIPTION:{}", {
+        last({
             let length = 64 + dice.below(48) as usize;
             dice.sentence(length)
         }),
@@ -114,8 +133,16 @@ fn hostile(bytes: usize) -> String {
 /// One property whose line takes up all there is.
 fn one_line(bytes: usize) -> String {
     let value = "Please bring the signed form to the desk. ".repeat(bytes / 42 + 1);
-    let around = "BEGIN:VEVENT\r\nDESCRIPTION:\r\nEND:VEVENT\r\n".len();
-    format!("BEGIN:VEVENT\r\nDESCRIPTION:{}\r\nEND:VEVENT\r\n", &value[..bytes - around])
+    described(&value[..bytes - described("").len()])
+}
+
+/// The same of commas alone, half as many: each is written as two bytes.
+fn commas(bytes: usize) -> String {
+    described(&",".repeat(bytes / 2))
+}
+
+fn described(value: &str) -> String {
+    format!("BEGIN:VEVENT\r\nDESCRIPTION:{value}\r\nEND:VEVENT\r\n")
 }
 
 fn wrapped(name: &str, bytes: usize, end: &str, mut part: impl FnMut(usize) -> String) -> String {

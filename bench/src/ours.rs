@@ -17,6 +17,15 @@ unsafe extern "C" {
     );
     fn hawniretem_fold_line(line: *const u8, line_len: usize, out: *mut u8, out_len: usize, numbers: *mut [usize; 3]);
     fn hawniretem_quote(value: *const u8, value_len: usize, out: *mut u8, out_len: usize, numbers: *mut [usize; 3]);
+    fn hawniretem_read_text(
+        mode: u32,
+        value: *const u8,
+        value_len: usize,
+        out: *mut u8,
+        out_len: usize,
+        numbers: *mut [usize; 3],
+    );
+    fn hawniretem_write_text(text: *const u8, text_len: usize, out: *mut u8, out_len: usize, numbers: *mut [usize; 3]);
     fn hawniretem_write(
         text: *const u8,
         text_len: usize,
@@ -42,7 +51,23 @@ unsafe extern "C" {
         parent: usize,
         numbers: *mut [usize; 3],
     );
+    fn hawniretem_loose_twins(
+        text: *const u8,
+        text_len: usize,
+        components: *const u32,
+        components_len: usize,
+        properties: *const u32,
+        properties_len: usize,
+        parameters: *const u32,
+        parameters_len: usize,
+        first: usize,
+        second: usize,
+        numbers: *mut [usize; 3],
+    );
 }
+
+/// The number of the mode that reads what the Rust reads: `\:` too.
+const REPOSITORY: u32 = 1;
 
 /// What a caller lends: nothing else is written.
 pub struct Lent {
@@ -106,6 +131,18 @@ pub fn quote(value: &[u8], out: &mut [u8]) -> [usize; 3] {
     numbers
 }
 
+pub fn read_text(value: &[u8], out: &mut [u8]) -> [usize; 3] {
+    let mut numbers = [0; 3];
+    unsafe { hawniretem_read_text(REPOSITORY, value.as_ptr(), value.len(), out.as_mut_ptr(), out.len(), &mut numbers) }
+    numbers
+}
+
+pub fn write_text(text: &[u8], out: &mut [u8]) -> [usize; 3] {
+    let mut numbers = [0; 3];
+    unsafe { hawniretem_write_text(text.as_ptr(), text.len(), out.as_mut_ptr(), out.len(), &mut numbers) }
+    numbers
+}
+
 /// Writes what a reading told of: the text and the rows by its numbers.
 pub fn write(told: [usize; 6], lent: &mut Lent) -> [usize; 3] {
     let Lent { text, components: c, properties: p, parameters: q, out } = lent;
@@ -143,6 +180,28 @@ pub fn neighbours(told: [usize; 6], lent: &Lent) -> [usize; 3] {
             q.as_ptr(),
             6 * told[5],
             0,
+            &mut numbers,
+        )
+    }
+    numbers
+}
+
+/// Whether the two children of the first component are loose twins, in what a reading told of; both have as many rows.
+pub fn loose_twins(told: [usize; 6], lent: &Lent) -> [usize; 3] {
+    let Lent { text, components: c, properties: p, parameters: q, .. } = lent;
+    let mut numbers = [0; 3];
+    unsafe {
+        hawniretem_loose_twins(
+            text.as_ptr(),
+            told[2],
+            c.as_ptr(),
+            4 * told[3],
+            p.as_ptr(),
+            5 * told[4],
+            q.as_ptr(),
+            6 * told[5],
+            1,
+            1 + told[3] / 2,
             &mut numbers,
         )
     }

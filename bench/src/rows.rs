@@ -4,7 +4,7 @@ use crate::clock::Clock;
 #[cfg(libical)]
 use crate::libical;
 use crate::ours::{self, Lent};
-use icalendar::parser::oracle::{folded, quoted, written};
+use icalendar::parser::oracle::{escaped, folded, quoted, unescaped, written};
 use icalendar::parser::{Component, read_component, unfold};
 use std::hint::black_box;
 
@@ -38,6 +38,9 @@ pub const ROWS: &[Row] = &[
     QUOTE,
     WRITE,
     TWINS,
+    TEXT,
+    ESCAPE,
+    LOOSE,
     #[cfg(libical)]
     LIBICAL,
 ];
@@ -98,9 +101,7 @@ const FOLD: Row = Row {
 const QUOTE: Row = Row {
     name: "quote",
     feeds: FEEDS,
-    parts: |feed| {
-        unfold(&feed).lines().filter_map(|line| line.split_once(':')).map(|(_, value)| value.to_owned()).collect()
-    },
+    parts: |feed| values(&feed),
     ours: |values, lent, clock| over_all(ours::quote, values, lent, clock),
     theirs: |values, clock| each(quoted, values, clock),
     same: |values, lent| all_same(ours::quote, quoted, values, lent),
@@ -161,6 +162,76 @@ const TWINS: Row = Row {
 /// How many components are equal to the one before them.
 fn like_before(tree: &Component) -> usize {
     tree.components.windows(2).filter(|pair| pair[0] == pair[1]).count()
+}
+
+/// Texts: every value of a calendar, one of 1 MiB that has nothing to escape, and one of commas alone.
+const TEXTS: &[(&str, usize)] =
+    &[("calendar", 1 << 20), ("calendar", 1 << 19), ("one-line", 1 << 20), ("commas", 1 << 20), ("commas", 1 << 19)];
+
+/// Values read as texts. The Rust's own text is copied where nothing was to be unescaped: ours stands in a buffer too.
+const TEXT: Row = Row {
+    name: "text",
+    feeds: TEXTS,
+    parts: |feed| values(&feed).iter().map(|value| escaped(value)).collect(),
+    ours: |values, lent, clock| over_all(ours::read_text, values, lent, clock),
+    theirs: |values, clock| each(unescaped_own, values, clock),
+    same: |values, lent| all_same(ours::read_text, unescaped_own, values, lent),
+};
+
+/// Texts written as values.
+const ESCAPE: Row = Row {
+    name: "escape",
+    feeds: TEXTS,
+    parts: |feed| values(&feed),
+    ours: |texts, lent, clock| over_all(ours::write_text, texts, lent, clock),
+    theirs: |texts, clock| each(escaped, texts, clock),
+    same: |texts, lent| all_same(ours::write_text, escaped, texts, lent),
+};
+
+/// A calendar compared with its copy, whose commas are escaped; the Rust's trees of both, with each value unescaped. Neither reading is timed.
+const LOOSE: Row = Row {
+    name: "loose",
+    feeds: &[("copied", 1 << 20), ("copied", 1 << 19)],
+    parts: |feed| vec![feed],
+    ours: |parts, lent, clock| {
+        let told = ours::read(parts[0].as_bytes(), lent);
+        clock.start();
+        black_box(ours::loose_twins(black_box(told), lent));
+        clock.stop();
+    },
+    theirs: |parts, clock| {
+        let text = unfold(&parts[0]);
+        let tree = read_component(&text).unwrap();
+        clock.start();
+        black_box(alike_as_texts(black_box(&tree.components[0]), black_box(&tree.components[1])));
+        clock.stop();
+    },
+    same: |parts, lent| {
+        let told = ours::read(parts[0].as_bytes(), lent);
+        let text = unfold(&parts[0]);
+        let pair = read_component(&text).unwrap().components;
+        ours::loose_twins(told, lent) == [0, 0, 1] && pair[0] != pair[1] && alike_as_texts(&pair[0], &pair[1])
+    },
+};
+
+fn unescaped_own(value: &str) -> String {
+    unescaped(value).into_owned()
+}
+
+/// Whether two trees are equal but for values that are the same text.
+fn alike_as_texts(a: &Component, b: &Component) -> bool {
+    a.name == b.name
+        && a.properties.len() == b.properties.len()
+        && a.components.len() == b.components.len()
+        && a.properties.iter().zip(&b.properties).all(|(p, q)| {
+            p.name == q.name && unescaped(p.val.as_str()) == unescaped(q.val.as_str()) && p.params == q.params
+        })
+        && a.components.iter().zip(&b.components).all(|(c, d)| alike_as_texts(c, d))
+}
+
+/// Every value of a feed.
+fn values(feed: &str) -> Vec<String> {
+    unfold(feed).lines().filter_map(|line| line.split_once(':')).map(|(_, value)| value.to_owned()).collect()
 }
 
 /// What both writers give alike: they fold elsewhere, and the Rust's raw writer sets no quotes.

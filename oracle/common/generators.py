@@ -598,38 +598,93 @@ def readwrite_random(rng):
         yield any_feed(rng, readwrite_prop, write_name)
 
 
-# ---------------------------------------------------------------- escapes: valid UTF-8; escapes the colon mode knows
+# ---------------------------------------------------------------- escaped text: valid UTF-8, and when read, escapes that the mode knows
 
-ESCAPES = [b"\\\\", b"\\;", b"\\,", b"\\:", b"\\n", b"\\N"]
+STRICT = [b"\\\\", b"\\;", b"\\,", b"\\n", b"\\N"]
+ESCAPES = STRICT + [b"\\:"]
+SIGNS = symbols(';,:nN\n\r"aé')
+FIT = re.compile(rb"(?:[^\\]|\\[\\;,nN:])*", re.DOTALL)
+STRICTLY_FIT = re.compile(rb"(?:[^\\]|\\[\\;,nN])*", re.DOTALL)
+TEXTS = [b"Meeting, room 4; bring:\n- the \\ sign\r\n", "Zoë's café, Żółw;\n".encode(), b"20261027T120000Z", b"mailto:x@ex.org", b",;\\\n:\"nN"]
+VALUES = [b"Meeting\\, room 4\\; bring:\\n- the \\\\ sign", "Zoë's café\\, Żółw\\;\\N".encode(), b"plain, but not escaped; text", b"\\\\n\\\\\\n\\n\\\\N"]
+
+
+def at_blocks(pieces):
+    """Each piece at, before and behind the edges of blocks of plain text; the text alone; and nothing but the piece."""
+    for n in sorted({block + by for block in (8, 16, 32, 64, 128, 256) for by in (-1, 0, 1)}):
+        yield b"a" * n
+        yield "é".encode() * n
+        for piece in pieces:
+            for at in (0, 1, n // 2, n - 1, n):
+                yield b"a" * at + piece + b"a" * (n - at)
+            yield (b"a" * n + piece) * 3
+            yield piece * n
+
+
+def at_limit(pieces):
+    for piece in pieces:
+        for n in (LIMIT - 1, LIMIT):
+            yield b"a" * (n % len(piece)) + piece * (n // len(piece))
+        yield piece + b"a" * (LIMIT - len(piece))
+        yield b"a" * (LIMIT - len(piece)) + piece
 
 
 def escape_fixed():
-    yield from exhaustive(symbols('\\;,:nN\n\ra"'), 5)
-    for piece in (b"a", b",", b"\\", b"\n", b";a"):
-        yield piece * (LIMIT // 2 // len(piece))
+    yield from exhaustive(symbols("\\") + SIGNS, 5)
+    for byte in ASCII + UTF8:
+        yield byte
+        yield b"a" + byte + b"b"
+    yield from at_blocks(symbols("\\;,\n\r:"))
+    yield from at_limit([b"a", b",", b"\\", b"\n", b";a", b"a,b;c\\d\ne"])
 
 
 def escape_random(rng):
     while True:
-        yield word(rng, symbols('\\;,:nN\n\ra"') + UTF8, 0, 40)
+        yield word(rng, symbols("\\;,") + SIGNS + UTF8, 0, 40)
+        yield word(rng, symbols("abcdefgh :") * 6 + symbols("\\;,\n") + UTF8, 0, 600)
+        yield damaged(rng, rng.choice(TEXTS), symbols("\\;,\n\r:nN") + UTF8)
+
+
+def read_text_fixed(escapes):
+    yield from exhaustive(escapes + SIGNS, 4)
+    for byte in ASCII + UTF8:
+        if byte != b"\\":
+            yield byte
+            yield b"\\n" + byte + b"\\\\"
+    yield from at_blocks(escapes)
+    yield from at_limit([b"a", *escapes, b"a\\,", b"a\\,b\\;c\\\\d\\ne"])
+
+
+def read_text_random(rng, escapes, fit):
+    while True:
+        yield word(rng, escapes + SIGNS + UTF8, 0, 40)
+        yield word(rng, symbols("abcdefgh :") * 6 + escapes + UTF8, 0, 600)
+        hurt = damaged(rng, rng.choice(VALUES), symbols("\\\\\\;,:nN\r\n") + UTF8)
+        if fit.fullmatch(hurt):
+            yield hurt
 
 
 def unescape_fixed():
-    yield from exhaustive(ESCAPES + symbols(';,:nN\n\ra"'), 4)
-    for piece in (b"a", b"\\n", b"\\\\"):
-        yield piece * (LIMIT // len(piece))
+    return read_text_fixed(ESCAPES)
 
 
 def unescape_random(rng):
-    while True:
-        yield word(rng, ESCAPES + symbols(';,:nN\n\ra"') + UTF8, 0, 40)
+    return read_text_random(rng, ESCAPES, FIT)
+
+
+def strict_fixed():
+    return read_text_fixed(STRICT)
+
+
+def strict_random(rng):
+    return read_text_random(rng, STRICT, STRICTLY_FIT)
 
 
 PARTS = {"unfold": (unfold_fixed, unfold_random), "key": (key_fixed, key_random), "keyseq": (key_fixed, key_random),
          "param": (param_fixed, param_random), "params": (param_fixed, param_random), "fold": (fold_fixed, fold_random),
          "quote": (quote_fixed, quote_random), "read": (read_fixed, read_random), "write": (write_fixed, write_random),
          "readwrite": (readwrite_fixed, readwrite_random),
-         "escape": (escape_fixed, escape_random), "unescape": (unescape_fixed, unescape_random)}
+         "escape": (escape_fixed, escape_random), "unescape": (unescape_fixed, unescape_random), "strict": (strict_fixed, strict_random)}
 
 
 def fixed(part):

@@ -26,6 +26,11 @@ use Rattle.folding.proofs.fold_line.Reads as fold-line-reads
 use Rattle.quoting.specs.Answers.{quoteAnswer, quoteOut}
 use Rattle.quoting.proofs.quote_special_chars.Kinds as quote-kinds
 use Rattle.quoting.proofs.quote_special_chars.Reads as quote-reads
+use Rattle.escapes.specs.Answers.{textAnswer, textOut, valueAnswer, valueOut}
+use Rattle.escapes.proofs.read_text.Kinds as read-text-kinds
+use Rattle.escapes.proofs.read_text.Reads as read-text-reads
+use Rattle.escapes.proofs.write_text.Kinds as write-text-kinds
+use Rattle.escapes.proofs.write_text.Reads as write-text-reads
 use Rattle.tables.specs.Lent.{Lent}
 use Rattle.reading.specs.Lent.{readInto, left}
 use Rattle.reading.proofs.read_components.Kinds as read-kinds
@@ -33,9 +38,11 @@ use Rattle.reading.proofs.read_components.Reads as read-reads
 use Rattle.writing.specs.Answers.{writeAnswer, writeOut}
 use Rattle.writing.proofs.write_components.Kinds as write-kinds
 use Rattle.writing.proofs.write_components.Reads as write-reads
-use Rattle.twins.specs.Answers.{twinsAnswer}
+use Rattle.twins.specs.Answers.{twinsAnswer, looseTwinsAnswer}
 use Rattle.twins.proofs.compare_twins.Kinds as compare-kinds
 use Rattle.twins.proofs.compare_twins.Reads as compare-reads
+use Rattle.twins.proofs.compare_loose_twins.Kinds as compare-loose-kinds
+use Rattle.twins.proofs.compare_loose_twins.Reads as compare-loose-reads
 use Rattle.listing.specs.Listing.{listing, leftListed, listingOf}
 use Rattle.listing.proofs.list.Kinds as list-kinds
 use Rattle.listing.proofs.list.Reads as list-reads
@@ -127,7 +134,41 @@ quote-special-chars-is = record {
 pub quote-special-chars-determined : Determined quoteSpecialChars (λ κs r. r)
 quote-special-chars-determined = determined quote-special-chars-is
 
--- ---- the reading, the writer, the twin test and the listing
+-- ---- reading and writing of text
+
+-- `escapes::read_text`
+abbrev pub readText : Call
+readText =
+    record { lifetimes = 2; parameters = read-text-kinds.ps; result = read-text-kinds.r; asked = read-text-reads.Asked; promised = read-text-reads.Learnt }
+
+pub read-text-is : Defined readText (λ κs r. r)
+    (λ κs a. textAnswer (a .0) (now (a .1 .0)) (length (now (a .1 .1 .0))))
+    (λ κs a. (tt, (tt, (textOut (a .0) (now (a .1 .0)) (now (a .1 .1 .0)), tt))))
+read-text-is = record {
+  asks-nothing = λ κs a. tt;
+  only = λ κs a r x p. record { result-is = p .0; exit-is = ap (λ (out : List ℕ). (tt, (tt, (out, tt)))) (p .1) };
+}
+
+pub read-text-determined : Determined readText (λ κs r. r)
+read-text-determined = determined read-text-is
+
+-- `escapes::write_text`
+abbrev pub writeText : Call
+writeText =
+    record { lifetimes = 2; parameters = write-text-kinds.ps; result = write-text-kinds.r; asked = write-text-reads.Asked; promised = write-text-reads.Learnt }
+
+pub write-text-is : Defined writeText (λ κs r. r)
+    (λ κs a. valueAnswer (now (a .0)) (length (now (a .1 .0))))
+    (λ κs a. (tt, (valueOut (now (a .0)) (now (a .1 .0)), tt)))
+write-text-is = record {
+  asks-nothing = λ κs a. tt;
+  only = λ κs a r x p. record { result-is = p .0; exit-is = ap (λ (out : List ℕ). (tt, (out, tt))) (p .1) };
+}
+
+pub write-text-determined : Determined writeText (λ κs r. r)
+write-text-determined = determined write-text-is
+
+-- ---- the reading, the writer, both twin tests and the listing
 
 -- `reading::read_components`
 abbrev pub readComponents : Call
@@ -173,6 +214,25 @@ compare-twins-is = record { asks-nothing = λ κs a. tt; only = λ κs a r x p. 
 
 pub compare-twins-determined : Determined compareTwins (λ κs r. r)
 compare-twins-determined = determined compare-twins-is
+
+-- `twins::compare_loose_twins`
+abbrev pub compareLooseTwins : Call
+compareLooseTwins =
+    record {
+      lifetimes = 4;
+      parameters = compare-loose-kinds.ps;
+      result = compare-loose-kinds.r;
+      asked = compare-loose-reads.Asked;
+      promised = compare-loose-reads.Learnt;
+    }
+
+pub compare-loose-twins-is : Defined compareLooseTwins (λ κs r. r)
+    (λ κs a. looseTwinsAnswer (lentIn a) (a .1 .1 .1 .1 .0) (a .1 .1 .1 .1 .1 .0))
+    (λ κs a. (tt, (tt, (tt, (tt, (tt, (tt, tt)))))))
+compare-loose-twins-is = record { asks-nothing = λ κs a. tt; only = λ κs a r x p. record { result-is = p; exit-is = refl } }
+
+pub compare-loose-twins-determined : Determined compareLooseTwins (λ κs r. r)
+compare-loose-twins-determined = determined compare-loose-twins-is
 
 -- `listing::list`
 abbrev pub list : Call

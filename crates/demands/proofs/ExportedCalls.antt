@@ -9,13 +9,15 @@ use Rattle.folding.specs.Strict.{strict}
 use Rattle.folding.specs.Repository.{repository}
 use Rattle.folding.specs.Answers.{foldAnswer, foldOut}
 use Rattle.quoting.specs.Answers.{quoteAnswer, quoteOut}
+use Rattle.escapes.specs.Answers.{textAnswer, textOut, valueAnswer, valueOut}
 use Rattle.tables.specs.Lent.{Lent}
 use Rattle.reading.specs.Answers.{textAfter}
 use Rattle.reading.specs.Lent.{readInto, left}
 use Rattle.writing.specs.Answers.{writeAnswer, writeOut}
-use Rattle.twins.specs.Answers.{twinsAnswer}
+use Rattle.twins.specs.Answers.{twinsAnswer, looseTwinsAnswer}
 use Rattle.neighbours.specs.Counts.{neighboursAnswer}
 use Rattle.exports.specs.Numbers.{readingNumbers, outputNumbers, twinNumbers, neighbourNumbers}
+use Rattle.exports.specs.Modes.{modeOf}
 use Rattle.exports.specs.Unfolding.{unfoldAnswer}
 use Rattle.exports.proofs.hawniretem_unfold.Kinds as unfold-kinds
 use Rattle.exports.proofs.hawniretem_unfold.Reads as unfold-reads
@@ -27,10 +29,16 @@ use Rattle.exports.proofs.hawniretem_fold_line.Kinds as fold-line-kinds
 use Rattle.exports.proofs.hawniretem_fold_line.Reads as fold-line-reads
 use Rattle.exports.proofs.hawniretem_quote.Kinds as quote-kinds
 use Rattle.exports.proofs.hawniretem_quote.Reads as quote-reads
+use Rattle.exports.proofs.hawniretem_read_text.Kinds as read-text-kinds
+use Rattle.exports.proofs.hawniretem_read_text.Reads as read-text-reads
+use Rattle.exports.proofs.hawniretem_write_text.Kinds as write-text-kinds
+use Rattle.exports.proofs.hawniretem_write_text.Reads as write-text-reads
 use Rattle.exports.proofs.hawniretem_write.Kinds as write-kinds
 use Rattle.exports.proofs.hawniretem_write.Reads as write-reads
 use Rattle.exports.proofs.hawniretem_twins.Kinds as twins-kinds
 use Rattle.exports.proofs.hawniretem_twins.Reads as twins-reads
+use Rattle.exports.proofs.hawniretem_loose_twins.Kinds as loose-twins-kinds
+use Rattle.exports.proofs.hawniretem_loose_twins.Reads as loose-twins-reads
 use Rattle.exports.proofs.hawniretem_neighbours.Kinds as neighbours-kinds
 use Rattle.exports.proofs.hawniretem_neighbours.Reads as neighbours-reads
 use Rattle.demands.specs.Calls.{Call, Defined, Determined, lentIn, leftIn}
@@ -100,6 +108,39 @@ hawniretem-quote-is = record {
 pub hawniretem-quote-determined : Determined hawniretemQuote (λ κs r. r)
 hawniretem-quote-determined = determined hawniretem-quote-is
 
+-- `exports::hawniretem_read_text`
+abbrev pub hawniretemReadText : Call
+hawniretemReadText =
+    record { lifetimes = 3; parameters = read-text-kinds.ps; result = read-text-kinds.r; asked = read-text-reads.Asked; promised = read-text-reads.Learnt }
+
+pub hawniretem-read-text-is : Defined hawniretemReadText (λ κs r. r)
+    (λ κs a. tt)
+    (λ κs a.
+    (tt, (tt, (textOut (modeOf (a .0)) (now (a .1 .0)) (now (a .1 .1 .0)), (outputNumbers (textAnswer (modeOf (a .0)) (now (a .1 .0)) (length (now (a .1 .1 .0)))), tt)))))
+hawniretem-read-text-is = record {
+  asks-nothing = λ κs a. tt;
+  only = λ κs a r x p. record { result-is = refl; exit-is = ap₂ (λ (out numbers : List ℕ). (tt, (tt, (out, (numbers, tt))))) (p .1) (p .0) };
+}
+
+pub hawniretem-read-text-determined : Determined hawniretemReadText (λ κs r. r)
+hawniretem-read-text-determined = determined hawniretem-read-text-is
+
+-- `exports::hawniretem_write_text`
+abbrev pub hawniretemWriteText : Call
+hawniretemWriteText =
+    record { lifetimes = 3; parameters = write-text-kinds.ps; result = write-text-kinds.r; asked = write-text-reads.Asked; promised = write-text-reads.Learnt }
+
+pub hawniretem-write-text-is : Defined hawniretemWriteText (λ κs r. r)
+    (λ κs a. tt)
+    (λ κs a. (tt, (valueOut (now (a .0)) (now (a .1 .0)), (outputNumbers (valueAnswer (now (a .0)) (length (now (a .1 .0)))), tt))))
+hawniretem-write-text-is = record {
+  asks-nothing = λ κs a. tt;
+  only = λ κs a r x p. record { result-is = refl; exit-is = ap₂ (λ (out numbers : List ℕ). (tt, (out, (numbers, tt)))) (p .1) (p .0) };
+}
+
+pub hawniretem-write-text-determined : Determined hawniretemWriteText (λ κs r. r)
+hawniretem-write-text-determined = determined hawniretem-write-text-is
+
 -- `exports::hawniretem_read`
 abbrev pub hawniretemRead : Call
 hawniretemRead =
@@ -147,6 +188,28 @@ hawniretem-twins-is = record {
 
 pub hawniretem-twins-determined : Determined hawniretemTwins (λ κs r. r)
 hawniretem-twins-determined = determined hawniretem-twins-is
+
+-- `exports::hawniretem_loose_twins`
+abbrev pub hawniretemLooseTwins : Call
+hawniretemLooseTwins =
+    record {
+      lifetimes = 5;
+      parameters = loose-twins-kinds.ps;
+      result = loose-twins-kinds.r;
+      asked = loose-twins-reads.Asked;
+      promised = loose-twins-reads.Learnt;
+    }
+
+pub hawniretem-loose-twins-is : Defined hawniretemLooseTwins (λ κs r. r)
+    (λ κs a. tt)
+    (λ κs a. (tt, (tt, (tt, (tt, (tt, (tt, (twinNumbers (looseTwinsAnswer (lentIn a) (a .1 .1 .1 .1 .0) (a .1 .1 .1 .1 .1 .0)), tt))))))))
+hawniretem-loose-twins-is = record {
+  asks-nothing = λ κs a. tt;
+  only = λ κs a r x p. record { result-is = refl; exit-is = ap (λ (numbers : List ℕ). (tt, (tt, (tt, (tt, (tt, (tt, (numbers, tt)))))))) p };
+}
+
+pub hawniretem-loose-twins-determined : Determined hawniretemLooseTwins (λ κs r. r)
+hawniretem-loose-twins-determined = determined hawniretem-loose-twins-is
 
 -- `exports::hawniretem_neighbours`
 abbrev pub hawniretemNeighbours : Call

@@ -11,6 +11,7 @@ pub mod Outputs
 pub mod OutRoom
 pub mod Folds
 pub mod Quotes
+pub mod Texts
 pub mod Scanning
 pub mod Lining
 pub mod Standing

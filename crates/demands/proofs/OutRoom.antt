@@ -1,4 +1,4 @@
--- Room for the output of a fold, of quoting and of the writer: where it was not what was missing, more of it changes nothing; 13 is told exactly
+-- Room for the output of a fold, of quoting, of reading and writing text, and of the writer: where it was not what was missing, more of it changes nothing; 13 is told exactly
 -- where it is missing; the length told suffices; and what each answer leaves. One law for all of them. Assumes nothing.
 use mathlib.Core.Path.{_≡_, refl, ap, sym, _∙_}
 use mathlib.Core.Bool.{Bool, true, false}
@@ -12,12 +12,15 @@ use borrow.Author.Tests.{le-leb, lt-leb, ne-eqb, leb-true, leb-false, eqb-true, 
 use Rattle.octets.specs.Choice.{pick}
 use Rattle.octets.specs.Bytes.{lf, other}
 use Rattle.octets.specs.Runs.{run, only}
-use Rattle.octets.specs.Answers.{longest, done, tooLong, hasBreak, notAscii, noOutRoom, badTable, unwritable, output, roomAnswer, outAfter}
+use Rattle.octets.specs.Answers.{longest, done, tooLong, hasBreak, notAscii, noOutRoom, badTable, unwritable, badEscape, output, roomAnswer, outAfter}
 use Rattle.octets.specs.declared.Output.{Output}
 use Rattle.octets.proofs.Laid.{whole}
 use Rattle.folding.specs.Answers.{ascii, lineAnswer, foldAnswer}
 use Rattle.quoting.specs.Quoting.{quoted}
 use Rattle.quoting.specs.Answers.{quoteAnswer}
+use Rattle.escapes.specs.Text.{fine, escapesFine, textOf, asValue}
+use Rattle.escapes.specs.Answers.{textAnswer, valueAnswer}
+use Rattle.escapes.specs.declared.Mode.{Mode}
 use Rattle.tables.specs.TableRule.{byTableRule}
 use Rattle.tables.specs.Lent.{Lent, brokenIn}
 use Rattle.tables.specs.declared.Found.{Found}
@@ -149,6 +152,36 @@ quote-room value = room-decides (length value ≤ longest) (quoted value) (quote
     go : (t : Bool) → leb (length value) longest ≡ t → ByRoom (length value ≤ longest) (length (quoted value)) (quoteAnswer value)
     go true h = decided (leb-true _ _ h) (λ room. rw h)
     go false h = refused (output tooLong 0 0) (fixed tooLong 0 (λ e. omega arith) (λ e. omega arith)) (λ n. omega (arith, leb-false (length value) longest h)) (λ room. rw h)
+
+-- ---- reading and writing of text
+
+pub text-room : (mode : Mode) (value : List ℕ) → RoomDecides ((length value ≤ longest) × (escapesFine mode value ≡ true)) (textOf value) (textAnswer mode value)
+text-room mode value = room-decides Short (textOf value) (textAnswer mode value) (go (leb (length value) longest) refl (escapesFine mode value) refl)
+  where
+    Short : Type 0
+    Short = (length value ≤ longest) × (escapesFine mode value ≡ true)
+
+    go : (s : Bool) → leb (length value) longest ≡ s → (t : Bool) → escapesFine mode value ≡ t → ByRoom Short (length (textOf value)) (textAnswer mode value)
+    go true h true k = decided (leb-true _ _ h, k) (λ room. rw (h, k))
+    go true h false k =
+        refused (output badEscape (fine mode value) 0) (fixed badEscape (fine mode value) (λ e. omega arith) (λ e. omega arith))
+        (λ f. let z : _≡_ {A = ℕ} 0 1 = cc (k, f .1) in omega arith) (λ room. rw (h, k))
+    go false h t k =
+        refused (output tooLong 0 0) (fixed tooLong 0 (λ e. omega arith) (λ e. omega arith)) (λ f. omega (arith, f .0, leb-false (length value) longest h)) (λ room. rw h)
+
+pub value-room : (text : List ℕ) → RoomDecides ((length text ≤ longest) × (length (asValue text) ≤ longest)) (asValue text) (valueAnswer text)
+value-room text = room-decides Short (asValue text) (valueAnswer text) (go (leb (length text) longest) refl (leb (length (asValue text)) longest) refl)
+  where
+    Short : Type 0
+    Short = (length text ≤ longest) × (length (asValue text) ≤ longest)
+
+    none : Fixed (output tooLong 0 0)
+    none = fixed tooLong 0 (λ e. omega arith) (λ e. omega arith)
+
+    go : (s : Bool) → leb (length text) longest ≡ s → (t : Bool) → leb (length (asValue text)) longest ≡ t → ByRoom Short (length (asValue text)) (valueAnswer text)
+    go true h true k = decided (leb-true _ _ h, leb-true _ _ k) (λ room. rw (h, k))
+    go true h false k = refused (output tooLong 0 0) none (λ f. omega (arith, f .1, leb-false (length (asValue text)) longest k)) (λ room. rw (h, k))
+    go false h t k = refused (output tooLong 0 0) none (λ f. omega (arith, f .0, leb-false (length text) longest h)) (λ room. rw h)
 
 -- ---- the writer
 

@@ -1,16 +1,17 @@
 -- What Hawniretem promises, in one file: open this first. Above each statement stands what it says and, in brackets, the sentences of
 -- docs/SPECIFICATION.md that it answers; docs/COVERAGE.md has the rest of what shows them. Each is proved by naming what stands elsewhere.
+-- A number with a letter is a promise that a later request added beside those of the base.
 -- Words: `b` is a text and the words of three tables as they are lent (`Lent`); `readInto feed b` are the six numbers of a reading, `left feed b`
 -- what it leaves in b; `toldOf` cuts that to what the numbers tell of; `treesIn b` are the trees that tables stand for.
 -- Assumes nothing.
 use mathlib.Core.Path.{_≡_}
 use mathlib.Core.Bool.{true}
-use mathlib.Core.List.{List, []}
+use mathlib.Core.List.{List, [], _++_}
 use mathlib.Core.Logic.{_↔_}
 use Prim.Native.Nat.{ℕ, _≤_, _<_}
-use lib.ListN.{length}
+use lib.ListN.{length, drop}
 use Rattle.octets.specs.Bytes.{other}
-use Rattle.octets.specs.Answers.{longest, done, noTextRoom, noRoom}
+use Rattle.octets.specs.Answers.{longest, done, noTextRoom, noRoom, badEscape, output}
 use Rattle.unfolding.specs.Unfold.{unfolded}
 use Rattle.unfolding.proofs.Laws.{Unbroken}
 use Rattle.tables.specs.Lent.{Lent, componentsIn, brokenIn, treesIn, treeIn}
@@ -24,13 +25,19 @@ use Rattle.folding.specs.Repository.{repository}
 use Rattle.folding.specs.Answers.{lineAnswer, foldAnswer}
 use Rattle.quoting.specs.Quoting.{quoted}
 use Rattle.quoting.specs.Answers.{quoteAnswer}
+use Rattle.escapes.specs.Text.{escapesFine, textOf, asValue}
+use Rattle.escapes.specs.Answers.{textAnswer, textOut, valueAnswer, valueOut}
+use Rattle.escapes.specs.declared.Mode.{Mode}
+use Rattle.escapes.specs.Grammar.{StandsFor}
+use Rattle.escapes.proofs.Grammar.{reads}
 use Rattle.printing.specs.Lines.{written}
 use Rattle.writing.specs.Answers.{writtenIn, writeAnswer, writeOut}
 use Rattle.twins.specs.Answers.{levels, compared, twinsAnswer}
-use Rattle.twins.proofs.Laws.{Asked, Twins, twins-exactly, twin-itself, twin-turned, twin-joined}
+use Rattle.twins.proofs.Laws.{Asked, Twins, twins-exactly, twin-itself, twin-turned, twin-joined, LooseTwins, twin-is-loose, loose-itself, loose-turned, loose-joined}
 use Rattle.demands.specs.Calls.{Determined}
 use Rattle.demands.specs.Lent.{Roomier, textOnly, toldOf}
 use Rattle.demands.specs.Outputs.{FitTables, RoomDecides, toldBytes}
+use Rattle.demands.specs.Texts.{BadAt}
 use Rattle.demands.specs.Readable.{Readable, ReadTo}
 use Rattle.demands.specs.Room.{AtMost, Exceeds, SameLeft, Suffices}
 use Rattle.demands.specs.Returning.{Enough}
@@ -43,8 +50,9 @@ use Rattle.demands.proofs.SaidNesting.{rows}
 use Rattle.demands.proofs.Grammar.{readable-calendar, answered-broken, broken-answered}
 use Rattle.demands.proofs.MeetsRule.{done-meets}
 use Rattle.demands.proofs.MoreRoom.{same-reading, two-exactly, ten-exactly, refusals-suffice, one-two-leave, three-ten-leave}
-use Rattle.demands.proofs.OutRoom.{fold-room, quote-room, write-room}
+use Rattle.demands.proofs.OutRoom.{fold-room, quote-room, text-room, value-room, write-room}
 use Rattle.demands.proofs.Folds.{strict-unfolds, repository-unfolds, strict-75, strict-full}
+use Rattle.demands.proofs.Texts.{told-back, bad-escape-at, text-no-longer}
 use Rattle.demands.proofs.RoundTrip as trip
 use Rattle.demands.proofs.Examples.{all-starred}
 
@@ -64,6 +72,10 @@ definite = (
   calls.quote-special-chars-determined,
   calls.parameter-determined,
 )
+
+-- 1a. The same of reading and writing text, and of the looser twin test. [R1-01, R1-06]
+pub text-definite : Determined calls.readText (λ κs r. r) × Determined calls.writeText (λ κs r. r) × Determined calls.compareLooseTwins (λ κs r. r)
+text-definite = (calls.read-text-determined, calls.write-text-determined, calls.compare-loose-twins-determined)
 
 -- 2. Refusals 1 and 2 of a reading change nothing lent; 3 to 10 leave the unfolded text at the front of the text, the bytes behind it as they were,
 -- and no table word changed. [B-37, B-38]
@@ -103,6 +115,22 @@ pub folds-come-back : (line : List ℕ) → Unbroken line
     → (unfolded (strict line) ≡ line) × (unfolded (repository line) ≡ line) × Within 75 (physical (strictPieces line)) × Full first (strictPieces line)
 folds-come-back line w = (strict-unfolds line w, repository-unfolds line w, strict-75 line, strict-full line)
 
+-- 8a. A value is read, and as this text, exactly where the grammar of escaped text says so. [R1-02]
+pub text-is-grammar : (mode : Mode) (value text : List ℕ) → ((escapesFine mode value ≡ true) × (textOf value ≡ text)) ↔ StandsFor mode value text
+text-is-grammar = reads
+
+-- 8b. A text that was written comes back: the bytes that writing tells of, read in either mode into a buffer with room for the text, are Done, with the
+-- text at its front. [R1-04]
+pub text-comes-back : (mode : Mode) (text old out : List ℕ) → length text ≤ length out → valueAnswer text (length old) .answer ≡ done →
+    let value = toldBytes (valueAnswer text (length old)) (valueOut text old) in
+    (textAnswer mode value (length out) ≡ output done 0 (length text)) × (textOut mode value out ≡ text ++ drop (length text) out)
+text-comes-back = told-back
+
+-- 8c. 16 is told at a backslash that begins no escape of the mode, and all before it is fine; and no text is longer than its value. [R1-05]
+pub bad-escape-told : (mode : Mode) (value : List ℕ) (room : ℕ)
+    → (textAnswer mode value room .answer ≡ badEscape → BadAt mode value (textAnswer mode value room .place)) × (textAnswer mode value room .length ≤ length value)
+bad-escape-told mode value room = (bad-escape-at mode value room, text-no-longer mode value room)
+
 -- 9. The round trip: what the writer accepts, written and then read with room enough, is Done and stands for the same trees. Room enough is as many
 -- bytes as were written, and as many rows as the tables have. [B-69]
 pub round-trip : (b : Lent) (out : List ℕ) → writeAnswer b (length out) .answer ≡ done → (b′ : Lent) → Enough b b′ →
@@ -135,6 +163,13 @@ pub twins-are-alike : (b : Lent) → ((row : ℕ) → brokenIn b ≡ Nothing →
     × ((one other third : ℕ) → Twins b one other → Twins b other third → Twins b one third)
 twins-are-alike b = (twin-itself b, twin-turned b, twin-joined b)
 
+-- 13a. Twins are loose twins, and loose twins too are an equivalence on the rows of one table. [R1-06]
+pub loose-twins : (b : Lent) → ((one other : ℕ) → Twins b one other → LooseTwins b one other)
+    × ((row : ℕ) → brokenIn b ≡ Nothing → row < length (componentsIn (b .components)) → LooseTwins b row row)
+    × ((one other : ℕ) → LooseTwins b one other → LooseTwins b other one)
+    × ((one other third : ℕ) → LooseTwins b one other → LooseTwins b other third → LooseTwins b one third)
+loose-twins b = (twin-is-loose b, loose-itself b, loose-turned b, loose-joined b)
+
 -- 14. The starred examples. [B-79]
 pub examples : allHold starred ≡ true
 examples = all-starred
@@ -161,3 +196,9 @@ pub output-room : ((b : Lent) → RoomDecides (FitTables b) (writtenIn b) (write
     × ((fold : List ℕ → List ℕ) (line : List ℕ) → RoomDecides (lineAnswer line .answer ≡ done) (fold line) (foldAnswer fold line))
     × ((value : List ℕ) → RoomDecides (length value ≤ longest) (quoted value) (quoteAnswer value))
 output-room = (write-room, λ fold line. fold-room line fold, quote-room)
+
+-- 18a. And of reading and writing text: room decides where value and text are within the limit and every escape is of the mode. [R1-05]
+pub text-room-decides : ((mode : Mode) (value : List ℕ)
+    → RoomDecides ((length value ≤ longest) × (escapesFine mode value ≡ true)) (textOf value) (textAnswer mode value))
+    × ((text : List ℕ) → RoomDecides ((length text ≤ longest) × (length (asValue text) ≤ longest)) (asValue text) (valueAnswer text))
+text-room-decides = (text-room, value-room)

@@ -4,6 +4,7 @@ pub mod LineGrammar
 pub mod Grammar
 pub mod Room
 pub mod Outputs
+pub mod Texts
 pub mod Writable
 pub mod Returning
 pub mod GrammarRefusals

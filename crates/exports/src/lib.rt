@@ -8,11 +8,14 @@ ghost use Rattle.folding.specs.Strict.{strict};
 ghost use Rattle.folding.specs.Repository.{repository};
 ghost use Rattle.folding.specs.Answers.{foldAnswer, foldOut};
 ghost use Rattle.quoting.specs.Answers.{quoteAnswer, quoteOut};
+ghost use Rattle.escapes.specs.Answers.{textAnswer, textOut, valueAnswer, valueOut};
 ghost use Rattle.writing.specs.Answers.{writeAnswer, writeOut};
-ghost use Rattle.twins.specs.Answers.{twinsAnswer};
+ghost use Rattle.twins.specs.Answers.{twinsAnswer, looseTwinsAnswer};
 ghost use Rattle.neighbours.specs.Counts.{neighboursAnswer};
 ghost use Rattle.exports.specs.Numbers.{readingNumbers, outputNumbers, twinNumbers, neighbourNumbers};
 ghost use Rattle.exports.specs.Unfolding.{unfoldAnswer};
+ghost use Rattle.exports.specs.Modes.{modeOf};
+use escapes::Mode;
 use neighbours::Neighbours;
 use octets::Output;
 use reading::Reading;
@@ -123,6 +126,39 @@ pub extern "C" fn hawniretem_quote(value: &[u8], out: &mut [u8], numbers: &mut [
     tell(quoting::quote_special_chars(value, out), numbers)
 }
 
+// The mode of reading text that a number names: 0 the strict one, any other the second.
+fn mode_of(mode: u32) -> Mode
+    ensures { λ r. ⌜ r ≡ modeOf mode ⌝ }
+{
+    if mode == 0 {
+        return Mode::Strict;
+    }
+    Mode::Repository
+}
+
+// Reads a value as the text that it stands for.
+#[no_mangle]
+pub extern "C" fn hawniretem_read_text(
+    mode: u32,
+    value: &[u8],
+    out: &mut [u8],
+    numbers: &mut [usize; 3],
+)
+    ensures { λ _. ⌜ now (numbers .exit) ≡ outputNumbers (textAnswer (modeOf mode) (now (value .entry)) (length (now (out .entry)))) ⌝ }
+    ensures { λ _. ⌜ now (out .exit) ≡ textOut (modeOf mode) (now (value .entry)) (now (out .entry)) ⌝ }
+{
+    tell(escapes::read_text(mode_of(mode), value, out), numbers)
+}
+
+// Writes a text as a value that stands for it.
+#[no_mangle]
+pub extern "C" fn hawniretem_write_text(text: &[u8], out: &mut [u8], numbers: &mut [usize; 3])
+    ensures { λ _. ⌜ now (numbers .exit) ≡ outputNumbers (valueAnswer (now (text .entry)) (length (now (out .entry)))) ⌝ }
+    ensures { λ _. ⌜ now (out .exit) ≡ valueOut (now (text .entry)) (now (out .entry)) ⌝ }
+{
+    tell(escapes::write_text(text, out), numbers)
+}
+
 // Writes the trees of three tables as a calendar.
 #[no_mangle]
 pub extern "C" fn hawniretem_write(
@@ -167,6 +203,26 @@ pub extern "C" fn hawniretem_twins(
 {
     tell_twins(
         twins::compare_twins(text, components, properties, parameters, first, second),
+        numbers,
+    )
+}
+
+// Whether two component rows are loose twins.
+#[no_mangle]
+pub extern "C" fn hawniretem_loose_twins(
+    text: &[u8],
+    components: &[u32],
+    properties: &[u32],
+    parameters: &[u32],
+    first: usize,
+    second: usize,
+    numbers: &mut [usize; 3],
+)
+    ensures { λ _. ⌜ now (numbers .exit)
+        ≡ twinNumbers (looseTwinsAnswer (lent (now (text .entry)) (now (components .entry)) (now (properties .entry)) (now (parameters .entry))) first second) ⌝ }
+{
+    tell_twins(
+        twins::compare_loose_twins(text, components, properties, parameters, first, second),
         numbers,
     )
 }

@@ -1,4 +1,5 @@
 // Runs the boundaries of the documents for real, each on both sides, and prints what was answered: a line for each.
+use escapes::Mode;
 use octets::Output;
 use trial::say;
 use trial::say_number;
@@ -19,6 +20,28 @@ fn longest_values(value: &[u8; trial::OVER], out: &mut [u8; trial::OVER]) {
     say_output(quoting::quote_special_chars(value, out));
     say(b"folding 1048577 bytes:");
     say_output(folding::fold_strict(value, out));
+}
+
+// Letters stand for themselves, read and written.
+fn longest_texts(letters: &[u8; trial::OVER], out: &mut [u8; trial::OVER]) {
+    say(b"reading text of 1048576 bytes:");
+    say_output(escapes::read_text(Mode::Strict, octets::view(letters, 0, 1048576), out));
+    say(b"reading text of 1048577 bytes:");
+    say_output(escapes::read_text(Mode::Strict, letters, out));
+    say(b"writing text of 1048576 bytes:");
+    say_output(escapes::write_text(octets::view(letters, 0, 1048576), out));
+    say(b"writing text of 1048577 bytes:");
+    say_output(escapes::write_text(letters, out));
+}
+
+// One comma more than fits into a value, with a backslash before each.
+const COMMAS: usize = octets::LONGEST / 2 + 1;
+
+fn longest_outputs(commas: &[u8; COMMAS], out: &mut [u8; trial::OVER]) {
+    say(b"writing 524288 commas:");
+    say_output(escapes::write_text(octets::view(commas, 0, 524288), out));
+    say(b"writing 524289 commas:");
+    say_output(escapes::write_text(commas, out));
 }
 
 fn read_with_rows(
@@ -215,6 +238,9 @@ fn main() {
     trial::read_long(1048577, &mut feed, &mut text);
     let line = [b'a'; trial::OVER];
     longest_values(&line, &mut text);
+    longest_texts(&line, &mut text);
+    let commas = [b','; COMMAS];
+    longest_outputs(&commas, &mut text);
     say(b"depth 64:");
     trial::read_nested(64);
     say(b"depth 65:");

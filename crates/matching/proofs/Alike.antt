@@ -10,6 +10,7 @@ use lib.ListN.{length}
 use Rattle.octets.proofs.Bools.{both}
 use Rattle.octets.specs.Words.{sameBytes}
 use Rattle.octets.proofs.Words.{same-eq, same-refl}
+use Rattle.tables.specs.Sizes.{componentCount}
 use Rattle.tables.specs.Trees.{Value, absent, present, Parameter, Property, Trees, none, tree}
 use Rattle.matching.specs.Alike.{alike, sameName, sameKey, sameHeld, sameParameter, sameParameters, samePropertyBy, sameTreesBy, sameTrees}
 
@@ -40,7 +41,7 @@ and-both a b e f = rw (e, f)
 
 module _ {A B : Type 0} (part : A → B) {same : B → B → Bool} (s : Equivalence same) where
   -- of a part of each
-  of-parts : Equivalence (λ (x y : A). same (part x) (part y))
+  pub of-parts : Equivalence (λ (x y : A). same (part x) (part y))
   of-parts =
       record {
         itself = λ x. s .itself (part x);
@@ -268,17 +269,28 @@ module _ {values : List ℕ → List ℕ → Bool} {parameters : List Parameter 
 pub twins-equal : Equality sameTrees
 twins-equal = equal-trees equal-bytes equal-parameters
 
--- and trees of which something can be told that differs do not pass it
-pub apart : {B : Type 0} (tell : Trees → B) (a b : Trees) → (tell a ≡ tell b → ⊥) → sameTrees a b ≡ false
-apart tell a b h = go (sameTrees a b) refl
-  where
-    go : (t : Bool) → sameTrees a b ≡ t → t ≡ false
-    go true e = absurd (h (ap tell (twins-equal .equal a b e)))
-    go false e = refl
-
 -- ---- trees side by side
 
 module _ (values : List ℕ → List ℕ → Bool) (parameters : List Parameter → List Parameter → Bool) where
+  -- trees that are alike have equally many components, whatever the tests are
+  as-many : (a b : Trees) → sameTreesBy values parameters a b ≡ true → componentCount a ≡ componentCount b
+  unfolding sameTreesBy componentCount
+  as-many none none e = refl
+  as-many none (tree name properties children rest) e = absurd (let z : _≡_ {A = ℕ} 0 1 = cc in omega arith)
+  as-many (tree name properties children rest) none e = absurd (let z : _≡_ {A = ℕ} 0 1 = cc in omega arith)
+  as-many (tree n ps cs ts) (tree n′ ps′ cs′ ts′) e =
+      let t = both (sameName n n′) _ e in
+      let u = both (alike (samePropertyBy values parameters) ps ps′) _ (t .1) in
+      let w = both (sameTreesBy values parameters cs cs′) (sameTreesBy values parameters ts ts′) (u .1) in
+      rw (as-many cs cs′ (w .0), as-many ts ts′ (w .1))
+
+  pub other-count : (a b : Trees) → (componentCount a ≡ componentCount b → ⊥) → sameTreesBy values parameters a b ≡ false
+  other-count a b h = go (sameTreesBy values parameters a b) refl
+    where
+      go : (t : Bool) → sameTreesBy values parameters a b ≡ t → t ≡ false
+      go true e = absurd (h (as-many a b e))
+      go false e = refl
+
   -- two trees alone: names and properties, and then children
   pub alone : (n n′ : List ℕ) (ps ps′ : List Property) (cs cs′ : Trees)
       → sameTreesBy values parameters (tree n ps cs none) (tree n′ ps′ cs′ none)

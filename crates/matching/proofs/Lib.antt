@@ -1,3 +1,4 @@
 pub mod Alike
 pub mod Parameters
 pub mod Properties
+pub mod Texts

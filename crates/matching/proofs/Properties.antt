@@ -1,4 +1,4 @@
--- The properties of two components, one own row of each at a time. Assumes nothing.
+-- The properties of two components, one own row of each at a time, whatever test compares their values. Assumes nothing.
 use mathlib.Core.Path.{_≡_, refl, sym, _∙_}
 use mathlib.Core.Bool.{Bool, true, false}
 use mathlib.Core.List.{List, [], _∷_}
@@ -18,7 +18,7 @@ use Rattle.walking.specs.declared.Window.{Window}
 use Rattle.walking.proofs.Walks.{held-rises}
 use Rattle.walking.proofs.Found.{in-window}
 use Rattle.walking.proofs.Own.{ownFrom, own-here, no-more, next-same, next-own, own-property, behind-own}
-use Rattle.matching.specs.Alike.{sameProperty, sameProperties}
+use Rattle.matching.specs.Alike.{alike, sameParameters, samePropertyBy}
 use Rattle.matching.proofs.Alike.{first-same, first-other, both-end, one-ends, other-ends}
 
 -- ---- the properties of one component, in the words of the tables
@@ -79,12 +79,16 @@ module _ (text table words : List ℕ) (row : ℕ) (w : Window) (o : Owns (prope
 
 -- ---- the properties of two components
 
-module _ (text table words : List ℕ) (row last row′ last′ : ℕ) where
+module _ (values : List ℕ → List ℕ → Bool) where
+  abbrev same : Property → Property → Bool
+  same = samePropertyBy values sameParameters
+
+module _ (values : List ℕ → List ℕ → Bool) (text table words : List ℕ) (row last row′ last′ : ℕ) where
   -- both walks stand, and what is left compares as `told`
   pub record Comparing (told : Bool) (i j p q : ℕ) : Type 0 where
     pub one : Standing text table words row last i p
     pub other : Standing text table words row′ last′ j q
-    pub compares : sameProperties (rest text table words row last i) (rest text table words row′ last′ j) ≡ told
+    pub compares : alike (same values) (rest text table words row last i) (rest text table words row′ last′ j) ≡ told
 
   module _ (fits : last ≤ length table / propertySize) (fits′ : last′ ≤ length table / propertySize)
       {told : Bool} {i j p q : ℕ} (c : Comparing told i j p q)
@@ -92,7 +96,7 @@ module _ (text table words : List ℕ) (row last row′ last′ : ℕ) where
       -- the other list ends before the first
       pub other-shorter : i < last → last′ ≤ j → false ≡ told
       other-shorter h k =
-          other-ends sameProperty _ _ _ _ (here text table words row last fits (c .one) h)
+          other-ends (same values) _ _ _ _ (here text table words row last fits (c .one) h)
           (no-more text (propertiesIn table) (parametersIn words) row′ last′ j k)
           ∙ c .compares
 
@@ -103,20 +107,20 @@ module _ (text table words : List ℕ) (row last row′ last′ : ℕ) where
           none : rest text table words row last i ≡ []
           none = no-more text (propertiesIn table) (parametersIn words) row last i h
 
-          go : (t : Bool) → leb last′ j ≡ t → t ≡ sameProperties (rest text table words row last i) (rest text table words row′ last′ j)
-          go true e = both-end sameProperty _ _ none (no-more text (propertiesIn table) (parametersIn words) row′ last′ j (leb-true last′ j e))
-          go false e = one-ends sameProperty _ _ _ _ none (here text table words row′ last′ fits′ (c .other) (leb-false last′ j e))
+          go : (t : Bool) → leb last′ j ≡ t → t ≡ alike (same values) (rest text table words row last i) (rest text table words row′ last′ j)
+          go true e = both-end (same values) _ _ none (no-more text (propertiesIn table) (parametersIn words) row′ last′ j (leb-true last′ j e))
+          go false e = one-ends (same values) _ _ _ _ none (here text table words row′ last′ fits′ (c .other) (leb-false last′ j e))
 
       module _ (r : RisingParameters (parametersIn words)) (h : i < last) (k : j < last′) {p′ q′ : ℕ}
           (e : p′ ≡ p + front (heldBefore i) (drop p (parametersIn words))) (f : q′ ≡ q + front (heldBefore j) (drop q (parametersIn words)))
         where
           abbrev pub firsts : Bool
-          firsts = sameProperty (ownProperty text (propertyAt table i) i p′ (parametersIn words)) (ownProperty text (propertyAt table j) j q′ (parametersIn words))
+          firsts = same values (ownProperty text (propertyAt table i) i p′ (parametersIn words)) (ownProperty text (propertyAt table j) j q′ (parametersIn words))
 
           -- the first properties of what is left differ
           pub first-differs : firsts ≡ false → false ≡ told
           first-differs t =
-              first-other sameProperty _ _ _ _ _ _ (own-first text table words row last fits (c .one) h e r) (own-first text table words row′ last′ fits′ (c .other) k f r) t
+              first-other (same values) _ _ _ _ _ _ (own-first text table words row last fits (c .one) h e r) (own-first text table words row′ last′ fits′ (c .other) k f r) t
               ∙ c .compares
 
           -- they agree
@@ -131,16 +135,16 @@ module _ (text table words : List ℕ) (row last row′ last′ : ℕ) where
                       next-same text (propertiesIn table) (parametersIn words) row last (i + 1) n,
                       next-same text (propertiesIn table) (parametersIn words) row′ last′ (j + 1) m,
                     )
-                    (first-same sameProperty _ _ _ _ _ _ (own-first text table words row last fits (c .one) h e r) (own-first text table words row′ last′ fits′ (c .other) k f r) t
+                    (first-same (same values) _ _ _ _ _ _ (own-first text table words row last fits (c .one) h e r) (own-first text table words row′ last′ fits′ (c .other) k f r) t
                     ∙ c .compares);
               }
 
-module _ (text table words : List ℕ) (row row′ : ℕ) (w w′ : Window) (o : Owns (propertiesIn table) (parametersIn words) row w)
+module _ (values : List ℕ → List ℕ → Bool) (text table words : List ℕ) (row row′ : ℕ) (w w′ : Window) (o : Owns (propertiesIn table) (parametersIn words) row w)
     (o′ : Owns (propertiesIn table) (parametersIn words) row′ w′)
   where
     pub starts : {i j : ℕ} → i ≡ next text table words row (w .last) (w .first) → j ≡ next text table words row′ (w′ .last) (w′ .first)
-        → Comparing text table words row (w .last) row′ (w′ .last)
-        (sameProperties (propertiesOf text (propertiesIn table) (parametersIn words) row) (propertiesOf text (propertiesIn table) (parametersIn words) row′))
+        → Comparing values text table words row (w .last) row′ (w′ .last)
+        (alike (same values) (propertiesOf text (propertiesIn table) (parametersIn words) row) (propertiesOf text (propertiesIn table) (parametersIn words) row′))
         i j (w .parameter) (w′ .parameter)
     starts e f =
         record {

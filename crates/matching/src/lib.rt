@@ -9,12 +9,19 @@ ghost use Rattle.tables.specs.Lent.{propertiesIn, parametersIn};
 ghost use Rattle.tables.specs.Trees.{parameterOf, propertiesOf};
 ghost use Rattle.tables.specs.Fronts.{ownParameters, ownProperty};
 ghost use Rattle.walking.specs.Places.{RisingParameters, Owns};
-ghost use Rattle.matching.specs.Alike.{sameName, sameKey, sameValue, sameParameter, sameParameters, sameProperty, sameProperties};
+ghost use Rattle.matching.specs.Alike.{alike, sameName, sameKey, sameParameter, sameParameters, samePropertyBy};
+ghost use Rattle.matching.specs.Tests.{valuesBy};
 use octets::Span;
 use tables::ComponentRow;
 use tables::ParameterRow;
 use tables::PropertyRow;
 use walking::Window;
+
+// How the values of two properties are compared: byte by byte, or as the texts that they stand for.
+pub enum Values {
+    Exact,
+    AsText,
+}
 
 // A property row, and the parameter row from which on those that belong to it stand.
 pub struct Held {
@@ -64,13 +71,20 @@ fn same_key(text: &[u8], a: Span, b: Span) -> bool
     same_part(text, a, b)
 }
 
-// Whether two properties have the same value.
-pub fn same_value(text: &[u8], p: PropertyRow, q: PropertyRow) -> bool
-    ensures { λ r. ⌜ r ≡ sameValue (viewed (now (text .entry)) (p .«value_start») (p .«value_len»)) (viewed (now (text .entry)) (q .«value_start») (q .«value_len»)) ⌝ }
+// Whether two properties have the same value, by the test that is asked for.
+pub fn same_value(values: Values, text: &[u8], p: PropertyRow, q: PropertyRow) -> bool
+    ensures { λ r. ⌜ r
+        ≡ valuesBy values (viewed (now (text .entry)) (p .«value_start») (p .«value_len»)) (viewed (now (text .entry)) (q .«value_start») (q .«value_len»)) ⌝ }
 {
     let one = span(p.value_start, p.value_len);
     let other = span(q.value_start, q.value_len);
-    same_part(text, one, other)
+    match values {
+        Values::Exact => same_part(text, one, other),
+        Values::AsText => escapes::same_text(
+            octets::view(text, one.start, one.len),
+            octets::view(text, other.start, other.len),
+        ),
+    }
 }
 
 // Whether two parameters are the same: their keys, and their values if they have one.
@@ -120,9 +134,16 @@ pub fn same_parameters(text: &[u8], parameters: &[u32], a: Held, b: Held) -> boo
 }
 
 // Whether two properties are the same: key, value and parameters.
-pub fn same_property(text: &[u8], properties: &[u32], parameters: &[u32], a: Held, b: Held) -> bool
+pub fn same_property(
+    values: Values,
+    text: &[u8],
+    properties: &[u32],
+    parameters: &[u32],
+    a: Held,
+    b: Held,
+) -> bool
     requires { ⌜ (a .property < length (now properties) / propertySize) × (b .property < length (now properties) / propertySize) ⌝ }
-    ensures { λ r. ⌜ r ≡ sameProperty
+    ensures { λ r. ⌜ r ≡ samePropertyBy (valuesBy values) sameParameters
         (ownProperty (now (text .entry)) (propertyAt (now (properties .entry)) (a .property)) (a .property) (a .first) (parametersIn (now (parameters .entry))))
         (ownProperty (now (text .entry)) (propertyAt (now (properties .entry)) (b .property)) (b .property) (b .first) (parametersIn (now (parameters .entry)))) ⌝ }
 {
@@ -135,7 +156,7 @@ pub fn same_property(text: &[u8], properties: &[u32], parameters: &[u32], a: Hel
     ) {
         return false;
     }
-    if !same_value(text, p, q) {
+    if !same_value(values, text, p, q) {
         return false;
     }
     same_parameters(text, parameters, a, b)
@@ -143,6 +164,7 @@ pub fn same_property(text: &[u8], properties: &[u32], parameters: &[u32], a: Hel
 
 // Whether two components have the same properties, in order; all of each stand in its window.
 pub fn same_properties(
+    values: Values,
     text: &[u8],
     properties: &[u32],
     parameters: &[u32],
@@ -152,7 +174,7 @@ pub fn same_properties(
     requires { ⌜ RisingParameters (parametersIn (now parameters))
         × Owns (propertiesIn (now properties)) (parametersIn (now parameters)) (a .row) (a .window)
         × Owns (propertiesIn (now properties)) (parametersIn (now parameters)) (b .row) (b .window) ⌝ }
-    ensures { λ r. ⌜ r ≡ sameProperties
+    ensures { λ r. ⌜ r ≡ alike (samePropertyBy (valuesBy values) sameParameters)
         (propertiesOf (now (text .entry)) (propertiesIn (now (properties .entry))) (parametersIn (now (parameters .entry))) (a .row))
         (propertiesOf (now (text .entry)) (propertiesIn (now (properties .entry))) (parametersIn (now (parameters .entry))) (b .row)) ⌝ }
 {
@@ -176,7 +198,7 @@ pub fn same_properties(
             property: j,
             first: q,
         };
-        if !same_property(text, properties, parameters, one, other) {
+        if !same_property(values, text, properties, parameters, one, other) {
             return false;
         }
         i = walking::next_own(properties, a.row, i + 1, a_last);

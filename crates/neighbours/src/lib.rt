@@ -12,6 +12,7 @@ ghost use Rattle.walking.specs.Walk.{endOf, inOrder, Reached};
 ghost use Rattle.walking.specs.Places.{Ruled, Arrived, Ordered};
 ghost use Rattle.twins.specs.Answers.{twinRows};
 ghost use Rattle.neighbours.specs.Counts.{repeats, childrenIn, firstChild, neighbours, neighboursAnswer};
+use matching::Values;
 use tables::Found;
 use twins::Spot;
 use walking::Cursor;
@@ -105,11 +106,12 @@ fn compare(
         ≡ pick (twinRows (lent (now (text .entry)) (now (components .entry)) (now (properties .entry)) (now (parameters .entry))) (before .row) (next .row)) 1 0)
         × Ordered (lent (now (text .entry)) (now (components .entry)) (now (properties .entry)) (now (parameters .entry))) (r .order .ordered) ⌝ }
 {
-    if !twins::same_front(text, properties, parameters, before, next) {
+    if !twins::same_front(Values::Exact, text, properties, parameters, before, next) {
         return Pair { twins: 0, order };
     }
     let learnt = learn(components, properties, order);
     let same = twins::same_trees(
+        Values::Exact,
         text,
         components,
         properties,

@@ -79,7 +79,7 @@ fn answer_one(
         return write_refusal();
     }
     let part = frame[0];
-    let done = rewriting::answer(
+    let done = spelling::answer(
         part,
         &frame[1..length],
         text,

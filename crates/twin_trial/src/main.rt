@@ -1,5 +1,6 @@
-// Runs the twin test and the count of neighbours on feeds and on tables made by hand: which rows are twins, what is refused, and with which place. The last
-// lines are the worked cases of crates/worked/specs/Twins.antt. Each case is a line of standard input: the call, the name, a feed or a text, and row numbers.
+// Runs the twin test, the looser one and the count of neighbours on feeds and on tables made by hand: which rows are twins, what is refused, and with which
+// place. The last lines are the worked cases of crates/worked/specs/Twins.antt and LooseTwins.antt. Each case is a line of standard input: the call, the name,
+// a feed or a text, and row numbers.
 use cases::fields::field;
 use cases::fields::front;
 use cases::fields::lay_bytes;
@@ -21,18 +22,49 @@ const BYTES: usize = 512;
 
 const WORDS: usize = 24;
 
-// The count of neighbours, for the call of that name; else the twin test. The fourth field has the row numbers.
+fn count(text: &[u8], components: &[u32], properties: &[u32], parameters: &[u32], row: usize) {
+    let told = neighbours::count_neighbours(text, components, properties, parameters, row);
+    say_three(told.answer, told.place, told.twins);
+}
+
+fn compare(
+    text: &[u8],
+    components: &[u32],
+    properties: &[u32],
+    parameters: &[u32],
+    row: usize,
+    other: usize,
+) {
+    let told = twins::compare_twins(text, components, properties, parameters, row, other);
+    say_three(told.answer, told.place, told.twins as usize);
+}
+
+fn compare_loosely(
+    text: &[u8],
+    components: &[u32],
+    properties: &[u32],
+    parameters: &[u32],
+    row: usize,
+    other: usize,
+) {
+    let told = twins::compare_loose_twins(text, components, properties, parameters, row, other);
+    say_three(told.answer, told.place, told.twins as usize);
+}
+
+// The count of neighbours, or the looser test, for the calls of these names; else the twin test. The fourth field has the row numbers.
 fn ask(case: &[u8], text: &[u8], components: &[u32], properties: &[u32], parameters: &[u32]) {
     let rows = field(case, 3);
     let row = number(rows, 0);
-    if octets::same_bytes(field(case, 0), b"neighbours") {
-        let told = neighbours::count_neighbours(text, components, properties, parameters, row);
-        say_three(told.answer, told.place, told.twins);
-        return;
-    }
     let other = number(rows, 1);
-    let told = twins::compare_twins(text, components, properties, parameters, row, other);
-    say_three(told.answer, told.place, told.twins as usize);
+    let asked = which(
+        field(case, 0),
+        b"neighbours|loose twins|loose feed|loose long|",
+    );
+    match asked {
+        0 => count(text, components, properties, parameters, row),
+        1 | 2 | 3 => compare_loosely(text, components, properties, parameters, row, other),
+        _ => compare(text, components, properties, parameters, row, other),
+    }
 }
 
 // Behind the row numbers stand the words of the three tables.
@@ -101,14 +133,29 @@ fn ask_65(case: &[u8]) {
     ask(case, b"A", &components, &none, &none);
 }
 
+// Asks of tables whose text has these bytes in front and is one byte longer than a value that is read.
+fn ask_lent(case: &[u8], bytes: &[u8], text: &mut [u8; trial::OVER]) {
+    octets::lay(bytes, text, 0);
+    ask_tables(case, text);
+}
+
+fn ask_long(case: &[u8], bytes: &[u8]) {
+    let mut text = [b'a'; trial::OVER];
+    ask_lent(case, bytes, &mut text);
+}
+
 // The call on these bytes.
 fn call(case: &[u8], bytes: &[u8]) {
-    let call = which(field(case, 0), b"twins|neighbours|feed|nested|65 levels|");
+    let call = which(
+        field(case, 0),
+        b"twins|neighbours|loose twins|feed|loose feed|nested|65 levels|long|loose long|",
+    );
     match call {
-        0 | 1 => ask_tables(case, bytes),
-        2 => ask_feed(case, bytes),
-        3 => ask_nested(case, bytes),
-        4 => ask_65(case),
+        0 | 1 | 2 => ask_tables(case, bytes),
+        3 | 4 => ask_feed(case, bytes),
+        5 => ask_nested(case, bytes),
+        6 => ask_65(case),
+        7 | 8 => ask_long(case, bytes),
         _ => say(b" NO SUCH CALL"),
     }
 }

@@ -12,7 +12,7 @@ use Rattle.tables.specs.Lent.{Lent, lent, componentsIn, propertiesIn}
 use Rattle.tables.specs.Trees.{gather, forest}
 use Rattle.walking.specs.Walk.{windowCount, tally, foundBelow, inOrder}
 use Rattle.matching.specs.Alike.{alike, sameTreesBy}
-use Rattle.twins.specs.Answers.{compared, twinsAnswer}
+use Rattle.twins.specs.Answers.{compared, comparedBy, twinsAnswer}
 
 -- the text `ab`; two components of three levels each, all with the name `a` and a property of key `a`; the owners of the properties are given,
 -- and the start of the last one's value
@@ -35,7 +35,7 @@ tables value =
 answers : twinsAnswer (tables 1) 0 3 ∷ twinsAnswer (tables 1) 1 4 ∷ twinsAnswer (tables 0) 0 3 ∷ twinsAnswer (tables 0) 1 4 ∷ twinsAnswer (tables 1) 0 1
     ∷ twinsAnswer (tables 1) 7 6 ∷ twinsAnswer (tables 1) 5 6 ∷ []
     ≡ compared done 0 1 ∷ compared done 0 1 ∷ compared done 0 0 ∷ compared done 0 0 ∷ compared done 0 0 ∷ compared badTable 7 0 ∷ compared badTable 6 0 ∷ []
-unfolding twinsAnswer broken firstBroken outFrom tabulate gather forest alike sameTreesBy sameBytes
+unfolding comparedBy broken firstBroken outFrom tabulate gather forest alike sameTreesBy sameBytes
 answers = refl
 
 -- the windows of twins may hold unequally many properties, though the tables are in order: these counts cannot tell components apart

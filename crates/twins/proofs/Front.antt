@@ -1,6 +1,6 @@
 -- The first property of a component, where it stands behind those of all earlier components. Assumes nothing.
 use mathlib.Core.Path.{_≡_, sym, ap, _∙_}
-use mathlib.Core.Bool.{true, false}
+use mathlib.Core.Bool.{Bool, true, false}
 use mathlib.Core.List.{List, [], _∷_}
 use Prim.Native.Nat.{ℕ, _+_, _<_, _/_, zero-le}
 use native.Mathlib.Omega.{arith}
@@ -23,7 +23,7 @@ use Rattle.walking.proofs.Found.{from-first}
 use Rattle.walking.proofs.Windows.{earlier}
 use Rattle.walking.proofs.Own.{own-property}
 use Rattle.walking.proofs.Lockstep.{is-there, stands-there}
-use Rattle.matching.specs.Alike.{sameProperty, sameProperties}
+use Rattle.matching.specs.Alike.{alike, sameParameters, samePropertyBy}
 use Rattle.matching.specs.declared.Held.{Held}
 use Rattle.matching.proofs.Alike.{first-other}
 use Rattle.twins.specs.Matched.{Fronts}
@@ -68,9 +68,9 @@ module _ (text words : List ℕ) (parameters : List ParameterRow) (rising : Risi
         ∙ ap (λ (p : Property). p ∷ rest)
         (sym (own-property parameters (h .property) zero-le (so .first ∙ omega arith) text rising (propertyAt words (h .property)))))
 
-  -- components whose first properties differ have different properties
-  pub fronts-differ : {one other : ℕ} {a b : Held} → Fronts (propertiesIn words) parameters one a → Fronts (propertiesIn words) parameters other b
+  -- components whose first properties differ have different properties, whatever test compares their values
+  pub fronts-differ : (values : List ℕ → List ℕ → Bool) {one other : ℕ} {a b : Held} → Fronts (propertiesIn words) parameters one a → Fronts (propertiesIn words) parameters other b
       → stands propertySize propertyAt (ownedBy one) words (a .property) ≡ true → stands propertySize propertyAt (ownedBy other) words (b .property) ≡ true
-      → sameProperty (heldBy a) (heldBy b) ≡ false
-      → sameProperties (propertiesOf text (propertiesIn words) parameters one) (propertiesOf text (propertiesIn words) parameters other) ≡ false
-  fronts-differ so so′ own own′ e = sym (first-other sameProperty _ _ _ _ _ _ (begins so own) (begins so′ own′) e)
+      → samePropertyBy values sameParameters (heldBy a) (heldBy b) ≡ false
+      → alike (samePropertyBy values sameParameters) (propertiesOf text (propertiesIn words) parameters one) (propertiesOf text (propertiesIn words) parameters other) ≡ false
+  fronts-differ values so so′ own own′ e = sym (first-other (samePropertyBy values sameParameters) _ _ _ _ _ _ (begins so own) (begins so′ own′) e)

@@ -1,5 +1,5 @@
--- What the answer of the twin test means: when it is Done with 1 and when with 0, that twins are an equivalence, and that the trees it compares are those
--- that whole tables stand for. Assumes nothing.
+-- What the answer of a twin test means: when it is Done with 1 and when with 0, that twins and loose twins are equivalences, and that the trees that are
+-- compared are those that whole tables stand for. Assumes nothing.
 use mathlib.Core.Path.{_≡_, refl, sym, ap, _∙_}
 use mathlib.Core.Bool.{Bool, true, false}
 use mathlib.Core.List.{List, [], _∷_}
@@ -24,8 +24,11 @@ use Rattle.tables.proofs.Levels.{tree-enough}
 use Rattle.tables.proofs.Nested.{componentOf, depthOf, rows-nested}
 use Rattle.tables.proofs.Rule.{meets}
 use Rattle.walking.proofs.Along.{comps, props, params}
-use Rattle.matching.proofs.Alike.{twins-equal}
-use Rattle.twins.specs.Answers.{compared, levels, twinRows, twinsAnswer}
+use Rattle.escapes.specs.Loose.{sameText}
+use Rattle.matching.specs.Alike.{sameValue, sameParameters, sameTreesBy}
+use Rattle.matching.proofs.Alike.{Equivalence, equality-is, equal-bytes, equal-parameters, of-trees, twins-equal}
+use Rattle.matching.proofs.Texts.{of-texts, twins-are-loose}
+use Rattle.twins.specs.Answers.{compared, levels, rowsAlikeBy, comparedBy, twinRows, twinsAnswer, looseTwinsAnswer}
 use Rattle.twins.specs.Tops.{before, treesAt, topRows}
 use Rattle.twins.specs.declared.Compared.{Compared}
 use Rattle.twins.proofs.Answers.{broken-row, no-first, no-second, told}
@@ -42,9 +45,10 @@ pub record Asked (b : Lent) (first second : ℕ) : Type 0 where
 abbrev asNumber : Bool → ℕ
 asNumber t = pick t 1 0
 
-module _ (b : Lent) (first second : ℕ) where
+-- over any test of values
+module _ (values : List ℕ → List ℕ → Bool) (b : Lent) (first second : ℕ) where
   abbrev answer : Compared
-  answer = twinsAnswer b first second
+  answer = comparedBy values b first second
 
   -- a refusal is not Done
   refused : {n place : ℕ} → answer ≡ compared done 0 n → answer ≡ compared badTable place 0 → ⊥
@@ -55,23 +59,35 @@ module _ (b : Lent) (first second : ℕ) where
     where
       by-second : brokenIn b ≡ Nothing → first < length (comps b) → (t : Bool) → ltb second (length (comps b)) ≡ t → Asked b first second
       by-second s h true t = record { sound = s; first-there = h; second-there = ltb-true second (length (comps b)) t }
-      by-second s h false t = absurd (refused e (no-second b first second s h (ltb-false second (length (comps b)) t)))
+      by-second s h false t = absurd (refused e (no-second values b first second s h (ltb-false second (length (comps b)) t)))
 
       by-first : brokenIn b ≡ Nothing → (t : Bool) → ltb first (length (comps b)) ≡ t → Asked b first second
       by-first s true t = by-second s (ltb-true first (length (comps b)) t) (ltb second (length (comps b))) refl
-      by-first s false t = absurd (refused e (no-first b first second s (ltb-false first (length (comps b)) t)))
+      by-first s false t = absurd (refused e (no-first values b first second s (ltb-false first (length (comps b)) t)))
 
       by-rule : (f : Found) → brokenIn b ≡ f → Asked b first second
       by-rule Nothing s = by-first s (ltb first (length (comps b))) refl
-      by-rule (At row) s = absurd (refused e (broken-row b first second s))
+      by-rule (At row) s = absurd (refused e (broken-row values b first second s))
 
   -- then it tells whether the trees are alike
-  tells : Asked b first second → {t : Bool} → twinRows b first second ≡ t → answer ≡ compared done 0 (asNumber t)
-  tells a t = told b first second (a .sound) (a .first-there) (a .second-there) ∙ rw t
+  tells : Asked b first second → {t : Bool} → rowsAlikeBy values b first second ≡ t → answer ≡ compared done 0 (asNumber t)
+  tells a t = told values b first second (a .sound) (a .first-there) (a .second-there) ∙ rw t
 
-  number : {n : ℕ} → answer ≡ compared done 0 n → {t : Bool} → twinRows b first second ≡ t → asNumber t ≡ n
+  number : {n : ℕ} → answer ≡ compared done 0 n → {t : Bool} → rowsAlikeBy values b first second ≡ t → asNumber t ≡ n
   number e t = ap (λ (c : Compared). c .twins) (sym (tells (asked e) t) ∙ e)
 
+  -- Done with 1 exactly if the question can be asked and the trees are alike, and with 0 exactly if it can and they are not
+  pub told-exactly : (t : Bool) → (answer ≡ compared done 0 (asNumber t)) ↔ (Asked b first second × (rowsAlikeBy values b first second ≡ t))
+  told-exactly t = (λ e. (asked e, is (rowsAlikeBy values b first second) t (number e refl)), λ a. tells (a .0) (a .1))
+    where
+      is : (t u : Bool) → asNumber t ≡ asNumber u → t ≡ u
+      is true true e = refl
+      is true false e = absurd (omega (arith, e))
+      is false true e = absurd (omega (arith, e))
+      is false false e = refl
+
+-- twins have equal trees
+module _ (b : Lent) (first second : ℕ) where
   abbrev Equal : Type 0
   Equal = treeIn b levels first ≡ treeIn b levels second
 
@@ -82,41 +98,85 @@ module _ (b : Lent) (first second : ℕ) where
   equal = twins-equal .equal (treeIn b levels first) (treeIn b levels second)
 
   -- Done with 1 exactly if the question can be asked and the trees are equal
-  pub twins-exactly : (answer ≡ compared done 0 1) ↔ (Asked b first second × Equal)
-  twins-exactly = (λ e. (asked e, is e (twinRows b first second) refl), λ a. tells (a .0) (alike (a .1)))
-    where
-      is : answer ≡ compared done 0 1 → (t : Bool) → twinRows b first second ≡ t → Equal
-      is e true t = equal t
-      is e false t = absurd (omega (arith, number e t))
+  pub twins-exactly : (twinsAnswer b first second ≡ compared done 0 1) ↔ (Asked b first second × Equal)
+  twins-exactly =
+      let so = told-exactly sameValue b first second true in
+      (λ e. let a = so .0 e in (a .0, equal (a .1)), λ a. so .1 (a .0, alike (a .1)))
 
   -- Done with 0 exactly if it can be asked and they are not
-  pub strangers-exactly : (answer ≡ compared done 0 0) ↔ (Asked b first second × (Equal → ⊥))
-  strangers-exactly = (λ e. (asked e, λ same. omega (arith, number e (alike same))), λ a. tells (a .0) (unlike (a .1) (twinRows b first second) refl))
+  pub strangers-exactly : (twinsAnswer b first second ≡ compared done 0 0) ↔ (Asked b first second × (Equal → ⊥))
+  strangers-exactly =
+      let so = told-exactly sameValue b first second false in
+      (λ e. let a = so .0 e in (a .0, λ same. apart (a .1) (alike same)), λ a. so .1 (a .0, unlike (a .1) (twinRows b first second) refl))
     where
-      unlike : (Equal → ⊥) → (t : Bool) → twinRows b first second ≡ t → twinRows b first second ≡ false
+      apart : twinRows b first second ≡ false → twinRows b first second ≡ true → ⊥
+      apart e f = let z : _≡_ {A = ℕ} 0 1 = cc in omega arith
+
+      unlike : (Equal → ⊥) → (t : Bool) → twinRows b first second ≡ t → t ≡ false
       unlike h true t = absurd (h (equal t))
-      unlike h false t = t
+      unlike h false t = refl
 
--- ---- twins are an equivalence of the rows of tables that meet the rule
+-- ---- an equivalence of the rows of tables that meet the rule, if values are compared by one
 
--- two rows are twins
+-- two rows are alike, by a test of values
+abbrev pub AlikeBy : (List ℕ → List ℕ → Bool) → Lent → ℕ → ℕ → Type 0
+AlikeBy values b first second = comparedBy values b first second ≡ compared done 0 1
+
+module _ {values : List ℕ → List ℕ → Bool} (v : Equivalence values) (b : Lent) where
+  abbrev trees : Equivalence (sameTreesBy values sameParameters)
+  trees = of-trees v (equality-is equal-parameters)
+
+  row-itself : (row : ℕ) → brokenIn b ≡ Nothing → row < length (comps b) → AlikeBy values b row row
+  row-itself row s h = told-exactly values b row row true .1 (record { sound = s; first-there = h; second-there = h }, trees .itself (treeIn b levels row))
+
+  row-turned : (first second : ℕ) → AlikeBy values b first second → AlikeBy values b second first
+  row-turned first second e =
+      let a = told-exactly values b first second true .0 e in
+      told-exactly values b second first true .1 (
+        record { sound = a .0 .sound; first-there = a .0 .second-there; second-there = a .0 .first-there },
+        trees .turned (treeIn b levels first) (treeIn b levels second) (a .1),
+      )
+
+  row-joined : (first second third : ℕ) → AlikeBy values b first second → AlikeBy values b second third → AlikeBy values b first third
+  row-joined first second third e f =
+      let a = told-exactly values b first second true .0 e in
+      let c = told-exactly values b second third true .0 f in
+      told-exactly values b first third true .1 (
+        record { sound = a .0 .sound; first-there = a .0 .first-there; second-there = c .0 .second-there },
+        trees .joined (treeIn b levels first) (treeIn b levels second) (treeIn b levels third) (a .1) (c .1),
+      )
+
+-- two rows are twins, or loose twins
 abbrev pub Twins : Lent → ℕ → ℕ → Type 0
 Twins b first second = twinsAnswer b first second ≡ compared done 0 1
 
+abbrev pub LooseTwins : Lent → ℕ → ℕ → Type 0
+LooseTwins b first second = looseTwinsAnswer b first second ≡ compared done 0 1
+
 module _ (b : Lent) where
   pub twin-itself : (row : ℕ) → brokenIn b ≡ Nothing → row < length (comps b) → Twins b row row
-  twin-itself row s h = twins-exactly b row row .1 (record { sound = s; first-there = h; second-there = h }, refl)
+  twin-itself = row-itself (equality-is equal-bytes) b
 
   pub twin-turned : (first second : ℕ) → Twins b first second → Twins b second first
-  twin-turned first second e =
-      let a = twins-exactly b first second .0 e in
-      twins-exactly b second first .1 (record { sound = a .0 .sound; first-there = a .0 .second-there; second-there = a .0 .first-there }, sym (a .1))
+  twin-turned = row-turned (equality-is equal-bytes) b
 
   pub twin-joined : (first second third : ℕ) → Twins b first second → Twins b second third → Twins b first third
-  twin-joined first second third e f =
-      let a = twins-exactly b first second .0 e in
-      let c = twins-exactly b second third .0 f in
-      twins-exactly b first third .1 (record { sound = a .0 .sound; first-there = a .0 .first-there; second-there = c .0 .second-there }, a .1 ∙ c .1)
+  twin-joined = row-joined (equality-is equal-bytes) b
+
+  pub loose-itself : (row : ℕ) → brokenIn b ≡ Nothing → row < length (comps b) → LooseTwins b row row
+  loose-itself = row-itself of-texts b
+
+  pub loose-turned : (first second : ℕ) → LooseTwins b first second → LooseTwins b second first
+  loose-turned = row-turned of-texts b
+
+  pub loose-joined : (first second third : ℕ) → LooseTwins b first second → LooseTwins b second third → LooseTwins b first third
+  loose-joined = row-joined of-texts b
+
+  -- twins are loose twins
+  pub twin-is-loose : (first second : ℕ) → Twins b first second → LooseTwins b first second
+  twin-is-loose first second e =
+      let a = told-exactly sameValue b first second true .0 e in
+      told-exactly sameText b first second true .1 (a .0, twins-are-loose (treeIn b levels first) (treeIn b levels second) (a .1))
 
   -- ---- the trees that are compared
 

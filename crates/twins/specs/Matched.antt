@@ -2,7 +2,7 @@
 -- Assumes nothing.
 use Prim.Native.Nat.{ℕ}
 use mathlib.Core.Path.{_≡_}
-use mathlib.Core.Bool.{true, _&&_}
+use mathlib.Core.Bool.{Bool, true, _&&_}
 use mathlib.Core.List.{List}
 use Rattle.tables.specs.Fronts.{front}
 use Rattle.tables.specs.Lent.{Lent, componentsIn, propertiesIn, parametersIn, treeIn, nameIn}
@@ -11,7 +11,7 @@ use Rattle.tables.specs.declared.PropertyRow.{PropertyRow}
 use Rattle.tables.specs.declared.ParameterRow.{ParameterRow}
 use Rattle.walking.specs.Walk.{endOf, heldBefore, windowFirst, Reached}
 use Rattle.walking.specs.declared.Window.{Window}
-use Rattle.matching.specs.Alike.{sameName, sameProperties, sameTrees}
+use Rattle.matching.specs.Alike.{alike, sameName, sameParameters, samePropertyBy, sameTreesBy}
 use Rattle.matching.specs.declared.Held.{Held}
 use Rattle.twins.specs.declared.Spot.{Spot}
 use Rattle.twins.specs.declared.Match.{Match}
@@ -33,18 +33,18 @@ pub record Ended (b : Lent) (number here : ℕ) (spot : Spot) : Type 0 where
 abbrev pub Behind : Lent → ℕ → Spot → Type 0
 Behind b number spot = Ended b number (spot .row) spot
 
--- names and properties of two components were compared; where they are alike, the walk goes on with the children of both
-pub record Headed (b : Lent) (one other : ℕ) (m : Match) : Type 0 where
+-- names and properties of two components were compared, values by a test; where they are alike, the walk goes on with the children of both
+pub record Headed (values : List ℕ → List ℕ → Bool) (b : Lent) (one other : ℕ) (m : Match) : Type 0 where
   pub alike : m .same
       ≡ sameName (nameIn (b .text) (componentsIn (b .components)) one) (nameIn (b .text) (componentsIn (b .components)) other)
-      && sameProperties (propertiesOf (b .text) (propertiesIn (b .properties)) (parametersIn (b .parameters)) one)
+      && alike (samePropertyBy values sameParameters) (propertiesOf (b .text) (propertiesIn (b .properties)) (parametersIn (b .parameters)) one)
       (propertiesOf (b .text) (propertiesIn (b .properties)) (parametersIn (b .parameters)) other)
   pub ended-one : m .same ≡ true → Ended b one one (m .first)
   pub ended-other : m .same ≡ true → Ended b other other (m .second)
 
 -- two components were compared; where they are alike, the walk goes on behind both
-pub record Matched (b : Lent) (level one other : ℕ) (m : Match) : Type 0 where
-  pub alike : m .same ≡ sameTrees (treeIn b level one) (treeIn b level other)
+pub record Matched (values : List ℕ → List ℕ → Bool) (b : Lent) (level one other : ℕ) (m : Match) : Type 0 where
+  pub alike : m .same ≡ sameTreesBy values sameParameters (treeIn b level one) (treeIn b level other)
   pub behind-one : m .same ≡ true → Behind b one (m .first)
   pub behind-other : m .same ≡ true → Behind b other (m .second)
 

@@ -1,4 +1,4 @@
-// The twin test: whether two component rows stand for the same tree.
+// The twin test: whether two component rows stand for the same tree, and the looser one, which compares values as texts.
 ghost use mathlib.Core.Path.{_≡_};
 ghost use mathlib.Core.Bool.{true, false};
 ghost use Prim.Native.Nat.{_<_};
@@ -10,11 +10,13 @@ ghost use Rattle.tables.specs.Lent.{lent, componentsIn, propertiesIn, parameter
 ghost use Rattle.tables.specs.Trees.{propertiesOf};
 ghost use Rattle.walking.specs.Walk.{ownedBy, stands, inOrder, Reached, Holds};
 ghost use Rattle.walking.specs.Places.{RisingParameters, Ruled, Arrived};
-ghost use Rattle.matching.specs.Alike.{sameProperties};
-ghost use Rattle.twins.specs.Answers.{compared, twinRows, twinsAnswer};
+ghost use Rattle.matching.specs.Alike.{alike, sameParameters, samePropertyBy};
+ghost use Rattle.matching.specs.Tests.{valuesBy};
+ghost use Rattle.twins.specs.Answers.{compared, rowsAlikeBy, comparedBy, twinsAnswer, looseTwinsAnswer};
 ghost use Rattle.twins.specs.Matched.{atRow, spotIn, Fronts, Headed, Matched};
 use matching::Held;
 use matching::Side;
+use matching::Values;
 use tables::Found;
 use walking::Cursor;
 
@@ -85,6 +87,7 @@ fn inside(side: Side) -> Spot
 
 // Compares the names and the properties of two components. Where they are alike, the rows behind both subtrees follow, and where the children are looked for.
 fn same_head(
+    values: Values,
     text: &[u8],
     components: &[u32],
     properties: &[u32],
@@ -96,7 +99,7 @@ fn same_head(
     requires { ⌜ Ruled (lent (now text) (now components) (now properties) (now parameters)) ⌝ }
     requires { ⌜ Arrived (lent (now text) (now components) (now properties) (now parameters)) (first .row) ordered (first .cursor) ⌝ }
     requires { ⌜ Arrived (lent (now text) (now components) (now properties) (now parameters)) (second .row) ordered (second .cursor) ⌝ }
-    ensures { λ r. ⌜ Headed (lent (now (text .entry)) (now (components .entry)) (now (properties .entry)) (now (parameters .entry))) (first .row) (second .row) r ⌝ }
+    ensures { λ r. ⌜ Headed (valuesBy values) (lent (now (text .entry)) (now (components .entry)) (now (properties .entry)) (now (parameters .entry))) (first .row) (second .row) r ⌝ }
 {
     let one = tables::component_at(components, first.row);
     let other = tables::component_at(components, second.row);
@@ -110,7 +113,7 @@ fn same_head(
     let a = side_of(components, properties, parameters, first, ordered);
     let b = side_of(components, properties, parameters, second, ordered);
     Match {
-        same: matching::same_properties(text, properties, parameters, a, b),
+        same: matching::same_properties(values, text, properties, parameters, a, b),
         first: inside(a),
         second: inside(b),
     }
@@ -118,6 +121,7 @@ fn same_head(
 
 // Compares two components: names, properties, and children in turn while the level falls.
 fn same_component(
+    values: Values,
     text: &[u8],
     components: &[u32],
     properties: &[u32],
@@ -130,9 +134,10 @@ fn same_component(
     requires { ⌜ Ruled (lent (now text) (now components) (now properties) (now parameters)) ⌝ }
     requires { ⌜ Arrived (lent (now text) (now components) (now properties) (now parameters)) (first .row) ordered (first .cursor) ⌝ }
     requires { ⌜ Arrived (lent (now text) (now components) (now properties) (now parameters)) (second .row) ordered (second .cursor) ⌝ }
-    ensures { λ r. ⌜ Matched (lent (now (text .entry)) (now (components .entry)) (now (properties .entry)) (now (parameters .entry))) level (first .row) (second .row) r ⌝ }
+    ensures { λ r. ⌜ Matched (valuesBy values) (lent (now (text .entry)) (now (components .entry)) (now (properties .entry)) (now (parameters .entry))) level (first .row) (second .row) r ⌝ }
 {
     let head = same_head(
+        values,
         text,
         components,
         properties,
@@ -152,6 +157,7 @@ fn same_component(
     let mut other = moved(second.row + 1, b);
     while (one.row < one_last) & (other.row < other_last) {
         let child = same_component(
+            values,
             text,
             components,
             properties,
@@ -200,6 +206,7 @@ fn front_of(properties: &[u32], parameters: &[u32], spot: Spot) -> Held
 // Whether the first properties of two components agree: it tells most of them apart at once. A property behind those of all earlier components that
 // belongs to a component is its first, whatever the order of the table.
 pub fn same_front(
+    values: Values,
     text: &[u8],
     properties: &[u32],
     parameters: &[u32],
@@ -209,7 +216,7 @@ pub fn same_front(
     requires { ⌜ RisingParameters (parametersIn (now parameters)) ⌝ }
     requires { ⌜ Reached (propertiesIn (now properties)) (parametersIn (now parameters)) (first .cursor) (first .row) ⌝ }
     requires { ⌜ Reached (propertiesIn (now properties)) (parametersIn (now parameters)) (second .cursor) (second .row) ⌝ }
-    ensures { λ r. ⌜ (r ≡ false → sameProperties
+    ensures { λ r. ⌜ (r ≡ false → alike (samePropertyBy (valuesBy values) sameParameters)
         (propertiesOf (now (text .entry)) (propertiesIn (now (properties .entry))) (parametersIn (now (parameters .entry))) (first .row))
         (propertiesOf (now (text .entry)) (propertiesIn (now (properties .entry))) (parametersIn (now (parameters .entry))) (second .row))
         ≡ false) ⌝ }
@@ -222,12 +229,13 @@ pub fn same_front(
     if !is_own(properties, b.property, second.row) {
         return true;
     }
-    matching::same_property(text, properties, parameters, a, b)
+    matching::same_property(values, text, properties, parameters, a, b)
 }
 
 // Whether the trees of two rows are alike, in tables that meet the table rule. A caller that compares many pairs checks the tables once (checking::first_broken,
 // walking::in_order) and walks on with its cursors; a cursor of zeros is always right.
 pub fn same_trees(
+    values: Values,
     text: &[u8],
     components: &[u32],
     properties: &[u32],
@@ -239,15 +247,16 @@ pub fn same_trees(
     requires { ⌜ Ruled (lent (now text) (now components) (now properties) (now parameters)) ⌝ }
     requires { ⌜ Arrived (lent (now text) (now components) (now properties) (now parameters)) (first .row) ordered (first .cursor) ⌝ }
     requires { ⌜ Arrived (lent (now text) (now components) (now properties) (now parameters)) (second .row) ordered (second .cursor) ⌝ }
-    ensures { λ r. ⌜ r ≡ twinRows (lent (now (text .entry)) (now (components .entry)) (now (properties .entry)) (now (parameters .entry))) (first .row) (second .row) ⌝ }
+    ensures { λ r. ⌜ r ≡ rowsAlikeBy (valuesBy values) (lent (now (text .entry)) (now (components .entry)) (now (properties .entry)) (now (parameters .entry))) (first .row) (second .row) ⌝ }
 {
-    if !same_front(text, properties, parameters, first, second) {
+    if !same_front(values, text, properties, parameters, first, second) {
         return false;
     }
     if !walking::same_size(components, first.row, second.row) {
         return false;
     }
     let found = same_component(
+        values,
         text,
         components,
         properties,
@@ -277,8 +286,9 @@ fn as_number(yes: bool) -> u32
     if yes { 1 } else { 0 }
 }
 
-// Whether two component rows are twins, or why the question cannot be asked.
-pub fn compare_twins(
+// Whether two component rows are alike, values by the test, or why the question cannot be asked.
+fn compare(
+    values: Values,
     text: &[u8],
     components: &[u32],
     properties: &[u32],
@@ -286,7 +296,7 @@ pub fn compare_twins(
     first: usize,
     second: usize,
 ) -> Compared
-    ensures { λ r. ⌜ r ≡ twinsAnswer (lent (now (text .entry)) (now (components .entry)) (now (properties .entry)) (now (parameters .entry))) first second ⌝ }
+    ensures { λ r. ⌜ r ≡ comparedBy (valuesBy values) (lent (now (text .entry)) (now (components .entry)) (now (properties .entry)) (now (parameters .entry))) first second ⌝ }
 {
     let broken = checking::first_broken(text, components, properties, parameters);
     if let Found::At(row) = broken {
@@ -313,6 +323,7 @@ pub fn compare_twins(
         cursor: start,
     };
     let same = same_trees(
+        values,
         text,
         components,
         properties,
@@ -326,4 +337,48 @@ pub fn compare_twins(
         place: 0,
         twins: as_number(same),
     }
+}
+
+// Whether two component rows are twins, or why the question cannot be asked.
+pub fn compare_twins(
+    text: &[u8],
+    components: &[u32],
+    properties: &[u32],
+    parameters: &[u32],
+    first: usize,
+    second: usize,
+) -> Compared
+    ensures { λ r. ⌜ r ≡ twinsAnswer (lent (now (text .entry)) (now (components .entry)) (now (properties .entry)) (now (parameters .entry))) first second ⌝ }
+{
+    compare(
+        Values::Exact,
+        text,
+        components,
+        properties,
+        parameters,
+        first,
+        second,
+    )
+}
+
+// Whether two component rows are loose twins: values are compared as the texts that they stand for, and all else as in twins.
+pub fn compare_loose_twins(
+    text: &[u8],
+    components: &[u32],
+    properties: &[u32],
+    parameters: &[u32],
+    first: usize,
+    second: usize,
+) -> Compared
+    ensures { λ r. ⌜ r ≡ looseTwinsAnswer (lent (now (text .entry)) (now (components .entry)) (now (properties .entry)) (now (parameters .entry))) first second ⌝ }
+{
+    compare(
+        Values::AsText,
+        text,
+        components,
+        properties,
+        parameters,
+        first,
+        second,
+    )
 }

@@ -18,11 +18,12 @@ use Rattle.reading.specs.Answers.{readingOf, textAfter}
 use Rattle.folding.specs.Pieces as pieces
 use Rattle.folding.specs.Strict.{units, foldedUnits}
 use Rattle.folding.specs.Repository.{cuts}
+use Rattle.escapes.specs.Text.{fine, textOf, asValue}
 use Rattle.writable.specs.WritingRule.{judgedFrom, judgedIn}
 use Rattle.printing.specs.Lines.{parametersText, propertyLines, written}
 use Rattle.writing.specs.Answers.{writeAnswer}
 use Rattle.matching.specs.Alike as matching
-use Rattle.twins.specs.Answers.{twinsAnswer}
+use Rattle.twins.specs.Answers.{comparedBy}
 use Rattle.neighbours.specs.Counts.{repeats, neighboursAnswer}
 use Rattle.worked.specs.Cases.{rising, turning, repeated, nested, comesTrue, wrong}
 use Rattle.worked.specs.Reading as reading
@@ -30,9 +31,11 @@ use Rattle.worked.specs.ReadingRoom as reading-room
 use Rattle.worked.specs.ReadingRefused as reading-refused
 use Rattle.worked.specs.Folding as folding
 use Rattle.worked.specs.Quoting as quoting
+use Rattle.worked.specs.Texts as texts
 use Rattle.worked.specs.Writing as writing
 use Rattle.worked.specs.WritingRefused as writing-refused
 use Rattle.worked.specs.Twins as twins
+use Rattle.worked.specs.LooseTwins as loose-twins
 use Rattle.worked.specs.Parts as parts
 
 -- ---- readings that are Done (answer 0): raw words of the rows, the text in front, and what stands behind both
@@ -148,6 +151,36 @@ pub too-short : wrong quoting.tooShort ≡ []
 unfolding bytes comesTrue wrong turning sameBytes run
 too-short = refl
 
+-- ---- escaped text: values read in both modes, bad escapes (16), too little room (13), and texts written
+
+pub strict-text : wrong texts.strictTextCases ≡ []
+unfolding bytes comesTrue wrong turning sameBytes fine textOf asValue
+strict-text = refl
+
+pub plain-text : wrong texts.plainTextCases ≡ []
+unfolding bytes comesTrue wrong turning sameBytes fine textOf asValue
+plain-text = refl
+
+pub second-mode : wrong texts.secondModeCases ≡ []
+unfolding bytes comesTrue wrong turning sameBytes fine textOf asValue
+second-mode = refl
+
+pub bad-escape : wrong texts.badEscapeCases ≡ []
+unfolding bytes comesTrue wrong turning sameBytes fine textOf asValue
+bad-escape = refl
+
+pub text-room : wrong texts.textRoomCases ≡ []
+unfolding bytes comesTrue wrong turning sameBytes fine textOf asValue
+text-room = refl
+
+pub written-text : wrong texts.writtenTextCases ≡ []
+unfolding bytes comesTrue wrong turning sameBytes fine textOf asValue
+written-text = refl
+
+pub written-room : wrong texts.writtenRoomCases ≡ []
+unfolding bytes comesTrue wrong turning sameBytes fine textOf asValue
+written-room = refl
+
 -- ---- what is written (answer 0) for tables made by hand, and too little room for it (13)
 
 pub lines : wrong writing.lines ≡ []
@@ -205,24 +238,38 @@ in-order = refl
 -- ---- the twin test: twins (1), no twins (0), 14 by the table rule, 14 by a row number, and their order
 
 pub alike : wrong twins.alikeCases ≡ []
-unfolding bytes comesTrue wrong sameBytes tabulate broken firstBroken outFrom gather forest matching.alike matching.sameTreesBy twinsAnswer
+unfolding bytes comesTrue wrong sameBytes tabulate broken firstBroken outFrom gather forest matching.alike matching.sameTreesBy comparedBy
 alike = refl
 
 pub unlike : wrong twins.unlike ≡ []
-unfolding bytes comesTrue wrong sameBytes tabulate broken firstBroken outFrom gather forest matching.alike matching.sameTreesBy twinsAnswer
+unfolding bytes comesTrue wrong sameBytes tabulate broken firstBroken outFrom gather forest matching.alike matching.sameTreesBy comparedBy
 unlike = refl
 
 pub other-shape : wrong twins.otherShape ≡ []
-unfolding bytes comesTrue wrong sameBytes tabulate broken firstBroken outFrom gather forest matching.alike matching.sameTreesBy twinsAnswer
+unfolding bytes comesTrue wrong sameBytes tabulate broken firstBroken outFrom gather forest matching.alike matching.sameTreesBy comparedBy
 other-shape = refl
 
 pub broken-rows : wrong twins.brokenRows ≡ []
-unfolding bytes comesTrue wrong sameBytes tabulate broken firstBroken outFrom gather forest matching.alike matching.sameTreesBy twinsAnswer
+unfolding bytes comesTrue wrong sameBytes tabulate broken firstBroken outFrom gather forest matching.alike matching.sameTreesBy comparedBy
 broken-rows = refl
 
 pub bad-numbers : wrong twins.badNumbers ≡ []
-unfolding bytes comesTrue wrong sameBytes tabulate broken firstBroken outFrom gather forest matching.alike matching.sameTreesBy twinsAnswer
+unfolding bytes comesTrue wrong sameBytes tabulate broken firstBroken outFrom gather forest matching.alike matching.sameTreesBy comparedBy
 bad-numbers = refl
+
+-- ---- the looser twin test: loose twins (1), none (0), and 14 as in the twin test
+
+pub loosely-alike : wrong loose-twins.looseTwinCases ≡ []
+unfolding bytes comesTrue wrong sameBytes tabulate broken firstBroken outFrom gather forest matching.alike matching.sameTreesBy comparedBy fine textOf
+loosely-alike = refl
+
+pub loosely-unlike : wrong loose-twins.looseUnlikeCases ≡ []
+unfolding bytes comesTrue wrong sameBytes tabulate broken firstBroken outFrom gather forest matching.alike matching.sameTreesBy comparedBy fine textOf
+loosely-unlike = refl
+
+pub loosely-refused : wrong loose-twins.looseRefusedCases ≡ []
+unfolding bytes comesTrue wrong sameBytes tabulate broken firstBroken outFrom gather forest matching.alike matching.sameTreesBy comparedBy fine textOf
+loosely-refused = refl
 
 -- ---- the count of neighbours, and what it refuses
 

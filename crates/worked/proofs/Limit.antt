@@ -1,10 +1,15 @@
 -- Answer 1: what is over 1,048,576 bytes is refused before all else but a broken or unwritable row, and changes nothing. No such input can stand in a table,
--- so these are laws over all of them. One byte less is read by the law `within`, and run by the programs of `limits` and `writer_trial`. Assumes nothing.
+-- so these are laws over all of them. One byte less is read by the law `within`, and run by the programs `limits`, `writer_trial` and `twin_trial`. Assumes nothing.
 use Prim.Native.Nat.{ℕ, _≤_, _<_}
-use mathlib.Core.Path.{_≡_}
+use mathlib.Core.Path.{_≡_, refl}
+use mathlib.Core.Bool.{Bool, true, false, _&&_}
 use mathlib.Core.List.{List, [], _∷_}
 use lib.ListN.{length}
+use lib.Dec.{leb}
 use borrow.Author.Tests.{le-leb, lt-leb}
+use Rattle.octets.specs.Choice.{pick}
+use Rattle.octets.specs.Answers.{output, outAfter}
+use Rattle.octets.specs.Words.{sameBytes}
 use Rattle.unfolding.specs.Unfold.{unfolded}
 use Rattle.tables.specs.Lent.{Lent, brokenIn}
 use Rattle.tables.specs.declared.Found.the-variants.{Nothing}
@@ -12,6 +17,10 @@ use Rattle.reading.specs.Answers.{readText, readingOf, textAfter}
 use Rattle.reading.specs.Lent.{roomIn, readInto, left}
 use Rattle.folding.specs.Answers.{foldAnswer, foldOut}
 use Rattle.quoting.specs.Answers.{quoteAnswer, quoteOut}
+use Rattle.escapes.specs.Text.{textOf, asValue}
+use Rattle.escapes.specs.Answers.{textAnswer, textOut, valueAnswer, valueOut}
+use Rattle.escapes.specs.Loose.{strictlyRead, sameText}
+use Rattle.escapes.specs.declared.Mode.{Mode}
 use Rattle.writable.specs.WritingRule.{judgedIn}
 use Rattle.writable.specs.declared.Judged.{Judged}
 use Rattle.writing.specs.Answers.{writtenIn, writeAnswer, writeOut}
@@ -47,6 +56,48 @@ module _ (value old : List ℕ) (over : 1048576 < length value) where
 
   pub value-too-long-leaves : quoteOut value old ≡ old
   value-too-long-leaves = rw (lt-leb (length value) 1048576 over)
+
+-- reading text, in either mode: "1 for input or output; 16 BadEscape ..; then 13"; "The output then stays."
+module _ (mode : Mode) (value old : List ℕ) (over : 1048576 < length value) where
+  pub text-value-too-long : threeNumbers (textAnswer mode value (length old)) ≡ 1 ∷ 0 ∷ 0 ∷ []
+  text-value-too-long = rw (lt-leb (length value) 1048576 over)
+
+  pub text-value-too-long-leaves : textOut mode value old ≡ old
+  text-value-too-long-leaves = rw (lt-leb (length value) 1048576 over)
+
+-- writing text: the text, and the value that is written for it
+module _ (text old : List ℕ) where
+  pub text-to-write-too-long : 1048576 < length text → threeNumbers (valueAnswer text (length old)) ≡ 1 ∷ 0 ∷ 0 ∷ []
+  text-to-write-too-long over = rw (lt-leb (length text) 1048576 over)
+
+  pub text-to-write-too-long-leaves : 1048576 < length text → valueOut text old ≡ old
+  text-to-write-too-long-leaves over = rw (lt-leb (length text) 1048576 over)
+
+  pub written-value-too-long : 1048576 < length (asValue text) → threeNumbers (valueAnswer text (length old)) ≡ 1 ∷ 0 ∷ 0 ∷ []
+  written-value-too-long over = rw (lt-leb (length (asValue text)) 1048576 over) (go (leb (length text) 1048576))
+    where
+      go : (t : Bool) → threeNumbers (pick t (output 1 0 0) (output 1 0 0)) ≡ 1 ∷ 0 ∷ 0 ∷ []
+      go true = refl
+      go false = refl
+
+  pub written-value-too-long-leaves : 1048576 < length (asValue text) → valueOut text old ≡ old
+  written-value-too-long-leaves over = rw (lt-leb (length (asValue text)) 1048576 over) (go (leb (length text) 1048576))
+    where
+      go : (t : Bool) → outAfter (pick t (output 1 0 0) (output 1 0 0)) (asValue text) old ≡ old
+      go true = refl
+      go false = refl
+
+-- the looser twin test: a value that is too long is refused, "or as bytes if either is refused there"
+module _ (v w : List ℕ) where
+  pub first-as-bytes : 1048576 < length v → sameText v w ≡ sameBytes v w
+  first-as-bytes over = rw (lt-leb (length v) 1048576 over)
+
+  pub second-as-bytes : 1048576 < length w → sameText v w ≡ sameBytes v w
+  second-as-bytes over = rw (lt-leb (length w) 1048576 over) (go (strictlyRead v))
+    where
+      go : (t : Bool) → pick (t && false) (sameBytes (textOf v) (textOf w)) (sameBytes v w) ≡ sameBytes v w
+      go true = refl
+      go false = refl
 
 -- the writer: behind 14, 15 and 12, and before 13: "then 1, 13"
 module _ (b : Lent) (old : List ℕ) (sound : brokenIn b ≡ Nothing) (writable : judgedIn b ≡ Judged.Writable) (over : 1048576 < length (writtenIn b)) where

@@ -1,5 +1,5 @@
 -- Serves laws only. What a worked case can say, when it holds, and which cases of a table do not. The cases themselves are in the other files: small inputs with what
--- document 01 says of them, written by hand, so that a reader can hold each against document 01 alone.
+-- documents 01 and 02 say of them, written by hand, so that a reader can hold each against these alone.
 -- Assumes nothing.
 use Prim.Native.Nat.{ℕ, zero, suc, _+_, _*_}
 use Prim.Native.String as strings
@@ -29,8 +29,10 @@ use Rattle.folding.specs.Answers.{foldAnswer, foldOut}
 use Rattle.folding.specs.Repository.{repository}
 use Rattle.folding.specs.Strict.{strict}
 use Rattle.quoting.specs.Answers.{quoteAnswer, quoteOut}
+use Rattle.escapes.specs.Answers.{textAnswer, textOut, valueAnswer, valueOut}
+use Rattle.escapes.specs.declared.Mode.{Mode}
 use Rattle.writing.specs.Answers.{writeAnswer, writeOut}
-use Rattle.twins.specs.Answers.{twinsAnswer}
+use Rattle.twins.specs.Answers.{twinsAnswer, looseTwinsAnswer}
 use Rattle.twins.specs.declared.Compared.{Compared}
 use Rattle.neighbours.specs.Counts.{neighboursAnswer}
 use Rattle.neighbours.specs.declared.Neighbours.{Neighbours}
@@ -92,10 +94,16 @@ pub data Claim : Type 0 where
   foldsStrictly : (line before numbers after : List ℕ) → Claim
   -- so does quoting
   quotes : (value before numbers after : List ℕ) → Claim
+  -- so does reading a value as text, in this mode
+  readsText : (mode : Mode) (value before numbers after : List ℕ) → Claim
+  -- so does writing a text
+  writesText : (text before numbers after : List ℕ) → Claim
   -- so does the writer, on this text and these tables
   writes : (tables : Lent) (before numbers after : List ℕ) → Claim
   -- the twin test of two rows of this text and these tables gives three numbers
   compares : (tables : Lent) (first second : ℕ) (numbers : List ℕ) → Claim
+  -- so does the looser one
+  comparesLoosely : (tables : Lent) (first second : ℕ) (numbers : List ℕ) → Claim
   -- so does the count of neighbours among the children of a row
   counts : (tables : Lent) (parent : ℕ) (numbers : List ℕ) → Claim
   -- unfolding into this buffer counts so many bytes, and leaves the buffer so
@@ -162,8 +170,11 @@ comesTrue (reads feed before numbers after) = sameBytes (sixNumbers (readInto fe
 comesTrue (folds line before numbers after) = comesOut (foldAnswer repository line (length before)) (foldOut repository line before) numbers after
 comesTrue (foldsStrictly line before numbers after) = comesOut (foldAnswer strict line (length before)) (foldOut strict line before) numbers after
 comesTrue (quotes value before numbers after) = comesOut (quoteAnswer value (length before)) (quoteOut value before) numbers after
+comesTrue (readsText mode value before numbers after) = comesOut (textAnswer mode value (length before)) (textOut mode value before) numbers after
+comesTrue (writesText text before numbers after) = comesOut (valueAnswer text (length before)) (valueOut text before) numbers after
 comesTrue (writes tables before numbers after) = comesOut (writeAnswer tables (length before)) (writeOut tables before) numbers after
 comesTrue (compares tables first second numbers) = sameBytes (comparedNumbers (twinsAnswer tables first second)) numbers
+comesTrue (comparesLoosely tables first second numbers) = sameBytes (comparedNumbers (looseTwinsAnswer tables first second)) numbers
 comesTrue (counts tables parent numbers) = sameBytes (repeatNumbers (neighboursAnswer tables parent)) numbers
 comesTrue (unfolds feed before count after) = eqb (length (unfolded feed)) count && sameBytes (laid (unfolded feed) before) after
 comesTrue (views text start len part) = sameBytes (viewed text start len) part

@@ -4,7 +4,9 @@ pub mod ReadingRoom
 pub mod ReadingRefused
 pub mod Folding
 pub mod Quoting
+pub mod Texts
 pub mod Writing
 pub mod WritingRefused
 pub mod Twins
+pub mod LooseTwins
 pub mod Parts

@@ -1,1 +1,1 @@
-// Worked cases: what document 01 says of small inputs, in numbers. It has no code of its own.
+// Worked cases: what documents 01 and 02 say of small inputs, in numbers. It has no code of its own.

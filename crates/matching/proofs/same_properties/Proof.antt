@@ -8,19 +8,21 @@ use borrow.Author.Tests.{not-true, not-false}
 use Rattle.tables.specs.Rows.{propertySize}
 use Rattle.tables.specs.Lent.{propertiesIn, parametersIn}
 use Rattle.tables.specs.Trees.{propertiesOf}
-use Rattle.matching.specs.Alike.{sameProperties}
+use Rattle.matching.specs.Alike.{alike, sameParameters, samePropertyBy}
+use Rattle.matching.specs.Tests.{valuesBy}
 use Rattle.matching.proofs.Properties.{Comparing, inside, starts, other-shorter, one-ended, first-differs, first-agrees}
 use Rattle.matching.proofs.same_properties.Statement.{statement}
 use Rattle.matching.proofs.same_properties.Tie as tie
 
 abbrev Inv-loop : tie.InvT-loop
-Inv-loop text table words a b a-last b-last i₀ j₀ p₀ q₀ i j p q =
-    Comparing text table words (a .row) a-last (b .row) b-last
-    (sameProperties (propertiesOf text (propertiesIn table) (parametersIn words) (a .row)) (propertiesOf text (propertiesIn table) (parametersIn words) (b .row)))
+Inv-loop values text table words a b a-last b-last i₀ j₀ p₀ q₀ i j p q =
+    Comparing (valuesBy values) text table words (a .row) a-last (b .row) b-last
+    (alike (samePropertyBy (valuesBy values) sameParameters) (propertiesOf text (propertiesIn table) (parametersIn words) (a .row))
+    (propertiesOf text (propertiesIn table) (parametersIn words) (b .row)))
     i j p q
 
 abbrev μ-loop : tie.MeasureT-loop
-μ-loop text table words a b a-last b-last i₀ j₀ p₀ q₀ i j p q = a-last - i
+μ-loop values text table words a b a-last b-last i₀ j₀ p₀ q₀ i j p q = a-last - i
 
 abbrev At : (tie.InvT-loop → tie.MeasureT-loop → Type 0) → Type 0
 At R = R Inv-loop μ-loop
@@ -55,7 +57,7 @@ loop-holds : tie.Need-loop-holds Inv-loop μ-loop
 loop-holds c =
     let s = at-start (c .before .before) in
     let a = s .args in
-    starts (a .text .now) (a .properties .now) (a .parameters .now) (a .a .row) (a .b .row) (a .a .window) (a .b .window) (s .pre .1) (s .pre .2)
+    starts (valuesBy (a .values)) (a .text .now) (a .properties .now) (a .parameters .now) (a .a .row) (a .b .row) (a .a .window) (a .b .window) (s .pre .1) (s .pre .2)
     (c .before .next-own .ensures) (c .next-own2 .ensures)
 
 returns : tie.Need-returns Inv-loop μ-loop
@@ -63,7 +65,7 @@ returns c =
     let l = c .before .before in
     let s = start-of l in
     let a = s .args in
-    other-shorter (a .text .now) (a .properties .now) (a .parameters .now) (a .a .row) (a .a .window .last) (a .b .row) (a .b .window .last)
+    other-shorter (valuesBy (a .values)) (a .text .now) (a .properties .now) (a .parameters .now) (a .a .row) (a .a .window .last) (a .b .row) (a .b .window .last)
     (one-inside s) (other-inside s) (l .loop .inv) (c .before .loop-test .taken) (c .if1 .taken)
 
 first-held-requires : tie.Need-first-held-requires Inv-loop μ-loop
@@ -85,7 +87,7 @@ returns-2 c =
     let l = loop-of d in
     let s = start-of l in
     let a = s .args in
-    first-differs (a .text .now) (a .properties .now) (a .parameters .now) (a .a .row) (a .a .window .last) (a .b .row) (a .b .window .last)
+    first-differs (valuesBy (a .values)) (a .text .now) (a .properties .now) (a .parameters .now) (a .a .row) (a .a .window .last) (a .b .row) (a .b .window .last)
     (one-inside s) (other-inside s) (l .loop .inv) (s .pre .0) (e .before .loop-test .taken) (e .if1 .left)
     (d .before .before .first-held .ensures) (d .before .first-held2 .ensures)
     (sym (d .same-property .ensures) ∙ not-true _ (c .if2 .taken))
@@ -112,7 +114,7 @@ loop-again c =
     let l = loop-of d in
     let s = start-of l in
     let a = s .args in
-    first-agrees (a .text .now) (a .properties .now) (a .parameters .now) (a .a .row) (a .a .window .last) (a .b .row) (a .b .window .last)
+    first-agrees (valuesBy (a .values)) (a .text .now) (a .properties .now) (a .parameters .now) (a .a .row) (a .a .window .last) (a .b .row) (a .b .window .last)
     (one-inside s) (other-inside s) (l .loop .inv) (s .pre .0) (e .before .loop-test .taken) (e .if1 .left)
     (d .before .before .first-held .ensures) (d .before .first-held2 .ensures)
     (sym (d .same-property .ensures) ∙ not-false _ (c .before .before .if2 .left))
@@ -123,7 +125,7 @@ returns-3 c =
     let l = c .before in
     let s = start-of l in
     let a = s .args in
-    one-ended (a .text .now) (a .properties .now) (a .parameters .now) (a .a .row) (a .a .window .last) (a .b .row) (a .b .window .last)
+    one-ended (valuesBy (a .values)) (a .text .now) (a .properties .now) (a .parameters .now) (a .a .row) (a .a .window .last) (a .b .row) (a .b .window .last)
     (one-inside s) (other-inside s) (l .loop .inv) (c .loop-test .left)
 
 pub same-properties-spec : {M : Type 1} → statement M

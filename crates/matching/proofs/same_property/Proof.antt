@@ -9,7 +9,8 @@ use Rattle.octets.specs.Views.{viewed}
 use Rattle.octets.specs.declared.Span.{Span}
 use Rattle.tables.specs.Rows.{propertyAt}
 use Rattle.tables.specs.declared.PropertyRow.{PropertyRow}
-use Rattle.matching.specs.Alike.{sameKey, sameValue}
+use Rattle.matching.specs.Alike.{sameKey}
+use Rattle.matching.specs.Tests.{valuesBy}
 use Rattle.matching.proofs.same_property.Statement.{statement}
 use Rattle.matching.proofs.same_property.Tie as tie
 
@@ -18,6 +19,9 @@ start-of c = c .before .before .before .before .before .before .before .before
 
 abbrev text-of : tie.After-same-key → List ℕ
 text-of c = start-of c .args .text .now
+
+abbrev test-of : tie.After-same-key → List ℕ → List ℕ → Bool
+test-of c = valuesBy (start-of c .args .values)
 
 abbrev one-of : tie.After-same-key → PropertyRow
 one-of c = propertyAt (start-of c .args .properties .now) (start-of c .args .a .property)
@@ -33,10 +37,10 @@ module _ (text : List ℕ) {r : Bool} {p q p′ q′ : PropertyRow} where
       → sameKey (viewed text (p′ .«key_start») (p′ .«key_len»)) (viewed text (q′ .«key_start») (q′ .«key_len»)) ≡ r
   read-keys a b c d e = cc
 
-  read-values : r ≡ sameValue (viewed text (p .«value_start») (p .«value_len»)) (viewed text (q .«value_start») (q .«value_len»))
+  read-values : (same : List ℕ → List ℕ → Bool) → r ≡ same (viewed text (p .«value_start») (p .«value_len»)) (viewed text (q .«value_start») (q .«value_len»))
       → p ≡ p′ → q ≡ q′
-      → sameValue (viewed text (p′ .«value_start») (p′ .«value_len»)) (viewed text (q′ .«value_start») (q′ .«value_len»)) ≡ r
-  read-values a d e = cc
+      → same (viewed text (p′ .«value_start») (p′ .«value_len»)) (viewed text (q′ .«value_start») (q′ .«value_len»)) ≡ r
+  read-values same a d e = cc
 
 -- what the keys say, and what the values
 keyed : (c : tie.After-same-key)
@@ -46,13 +50,13 @@ keyed c =
     read-keys (text-of c) (c .same-key .ensures) (c .before .before .span .ensures) (c .before .span2 .ensures) (q .before .property-at .ensures) (q .property-at2 .ensures)
 
 valued : (c : tie.After-same-value)
-    → sameValue (viewed (text-of (c .before .before)) (one-of (c .before .before) .«value_start») (one-of (c .before .before) .«value_len»))
+    → test-of (c .before .before) (viewed (text-of (c .before .before)) (one-of (c .before .before) .«value_start») (one-of (c .before .before) .«value_len»))
     (viewed (text-of (c .before .before)) (other-of (c .before .before) .«value_start») (other-of (c .before .before) .«value_len»))
     ≡ c .same-value .result
 valued c =
     let k = c .before .before in
     let q = k .before .before .before in
-    read-values (text-of k) (c .same-value .ensures) (q .before .property-at .ensures) (q .property-at2 .ensures)
+    read-values (text-of k) (test-of k) (c .same-value .ensures) (q .before .property-at .ensures) (q .property-at2 .ensures)
 
 property-at-requires : tie.Need-property-at-requires
 property-at-requires c κs = search needs

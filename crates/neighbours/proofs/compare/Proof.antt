@@ -5,6 +5,7 @@ use mathlib.Core.Path.{sym, ap, _∙_}
 use mathlib.Core.Bool.{Bool}
 use Rattle.octets.specs.Choice.{pick}
 use Rattle.tables.specs.Lent.{Lent, lent}
+use Rattle.matching.specs.Alike.{sameValue}
 use Rattle.twins.specs.Answers.{levels}
 use Rattle.twins.proofs.Pairs.{properties-differ}
 use Rattle.neighbours.proofs.compare.Statement.{statement}
@@ -27,7 +28,7 @@ returns c =
     let f = c .before in
     let s = start-at f in (
       sym (ap (λ (t : Bool). pick t 1 0)
-          (properties-differ (tables-of s) levels (s .args .before .row) (s .args .next .row) (f .same-front .ensures (not-true _ (c .if1 .taken))))),
+          (properties-differ sameValue (tables-of s) levels (s .args .before .row) (s .args .next .row) (f .same-front .ensures (not-true _ (c .if1 .taken))))),
       s .pre .1 .0 .order,
     )
 

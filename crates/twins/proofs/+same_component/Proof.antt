@@ -17,6 +17,7 @@ use Rattle.walking.proofs.Rows.{row-there}
 use Rattle.walking.proofs.Siblings.{end-later}
 use Rattle.walking.proofs.Along.{comps, level-left, placed}
 use Rattle.walking.proofs.children_end.Reads as children-end-reads
+use Rattle.matching.specs.Tests.{valuesBy}
 use Rattle.twins.proofs.Pairs.{Paired, heads-differ, pair-differs, pair-agrees, pairs-begin, pairs-told, from-behind, as-behind}
 use Rattle.twins.proofs.moved.Reads as moved-reads
 use Rattle.twins.proofs.same_head.Reads as same-head-reads
@@ -27,7 +28,7 @@ use Rattle.twins.proofs.+same_component.{statement}
 use Rattle.twins.proofs.+same_component.Tie.{close}
 
 abbrev μ : Measures 4 kinds.ps ℕ
-μ κs a = a .1 .1 .1 .1 .1 .1 .0
+μ κs a = a .1 .1 .1 .1 .1 .1 .1 .0
 
 abbrev given : ℕ → In 4 kinds.ps
 given t = and 4 kinds.ps (is 4 kinds.ps μ t) reads.Pre
@@ -37,11 +38,11 @@ below t = and 4 kinds.ps (falls 4 kinds.ps _<_ μ t) reads.Pre
 
 -- the children are looked for from behind the two rows on
 abbrev Inv-loop : lts.InvT-loop
-Inv-loop text components properties parameters level ordered a b one-last other-last one₀ other₀ one other =
-    Paired (lent text components properties parameters) level (one₀ .row - 1) (other₀ .row - 1) one-last other-last one other
+Inv-loop values text components properties parameters level ordered a b one-last other-last one₀ other₀ one other =
+    Paired (valuesBy values) (lent text components properties parameters) level (one₀ .row - 1) (other₀ .row - 1) one-last other-last one other
 
 abbrev μ-loop : lts.MeasureT-loop
-μ-loop text components properties parameters level ordered a b one-last other-last one₀ other₀ one other = one-last - one .row
+μ-loop values text components properties parameters level ordered a b one-last other-last one₀ other₀ one other = one-last - one .row
 
 abbrev calls : ℕ → lts.Claims
 calls t = (same-head-reads.Asked, same-head-reads.Learnt, children-end-reads.Asked, children-end-reads.Learnt, moved-reads.Asked, moved-reads.Learnt, below t, reads.Post)
@@ -97,7 +98,7 @@ tables-of s = lent (s .args .text .now) (s .args .components .now) (s .args .pro
 few-rows : (t : ℕ) (s : Place lts.Start t) → (s .args .first .row < most) × (s .args .second .row < most)
 few-rows t s =
     let n = s .args .components .now in
-    let room : length n ≤ most = omega (arith, s .good .1 .0) in
+    let room : length n ≤ most = omega (arith, s .good .1 .1 .0) in
     (omega (arith, row-there n (s .args .first .row) (s .pre .1 .1 .0 .there)), omega (arith, row-there n (s .args .second .row) (s .pre .1 .1 .1 .there)))
 
 agreed : (t : ℕ) (c : Place lts.After-moved2 t) → head-at c .same-head .result .same ≡ true
@@ -122,7 +123,7 @@ other-ends t c =
 -- the children of both, as far as the loop has come
 paired : (t : ℕ) (l : Place lts.At-loop t) →
     let s = start-at (l .before) in
-    Paired (tables-of s) (s .args .level) (s .args .first .row) (s .args .second .row) (one-end-at (l .before) .children-end .result)
+    Paired (valuesBy (s .args .values)) (tables-of s) (s .args .level) (s .args .first .row) (s .args .second .row) (one-end-at (l .before) .children-end .result)
     (other-end-at (l .before) .children-end2 .result) (l .loop .one) (l .loop .other)
 paired t l = from-behind (l .before .before .before .moved .ensures) (l .before .moved2 .ensures) (l .loop .inv)
 
@@ -151,7 +152,7 @@ returns : Asks lts.Need-returns
 returns t c =
     let h = c .before .before in
     let s = before-head (h .before) in
-    heads-differ (tables-of s) (s .args .level) (s .args .first .row) (s .args .second .row) (h .same-head .ensures) (not-true _ (c .if1 .taken))
+    heads-differ (valuesBy (s .args .values)) (tables-of s) (s .args .level) (s .args .first .row) (s .args .second .row) (h .same-head .ensures) (not-true _ (c .if1 .taken))
 
 add-children-end : Asks lts.Need-add-children-end
 add-children-end t c = omega (arith, few-rows t (before-head (known-at c .before)) .0)
@@ -182,7 +183,7 @@ loop-holds t c =
     let s = start-at c in
     let a = s .args in
     as-behind (c .before .before .moved .ensures) (c .moved2 .ensures)
-    (pairs-begin (tables-of s) (a .level) (a .first .row) (a .second .row) (s .pre .1 .0) (s .pre .1 .1 .0 .there) (s .pre .1 .1 .1 .there)
+    (pairs-begin (valuesBy (a .values)) (tables-of s) (a .level) (a .first .row) (a .second .row) (s .pre .1 .0) (s .pre .1 .1 .0 .there) (s .pre .1 .1 .1 .there)
     (one-ends t c) (other-ends t c) (head-at c .same-head .ensures) (agreed t c) (c .before .before .moved .ensures) (c .moved2 .ensures))
 
 sub-same-component : Asks lts.Need-sub-same-component
@@ -207,19 +208,20 @@ returns-2 t c =
     let i = c .before .before .before in
     let s = start-at (loop-at i .before) in
     let a = s .args in
-    pair-differs (tables-of s) (a .level) (a .first .row) (a .second .row) (paired t (loop-at i)) (one-more t i) (other-more t i)
+    pair-differs (valuesBy (a .values)) (tables-of s) (a .level) (a .first .row) (a .second .row) (paired t (loop-at i)) (one-more t i) (other-more t i)
     (c .before .before .same-component .ensures) (not-true _ (c .if3 .taken))
 
 next-pair : (t : ℕ) (c : Place lts.After-other t) →
     let n = loop-at (turn-at c) .before in
     let s = start-at n in
     let m = c .before .before .before .before .same-component .result in
-    Paired (tables-of s) (s .args .level) (s .args .first .row) (s .args .second .row) (one-end-at n .children-end .result) (other-end-at n .children-end2 .result) (m .first) (m .second)
+    Paired (valuesBy (s .args .values)) (tables-of s) (s .args .level) (s .args .first .row) (s .args .second .row)
+    (one-end-at n .children-end .result) (other-end-at n .children-end2 .result) (m .first) (m .second)
 next-pair t c =
     let i = turn-at c in
     let s = start-at (loop-at i .before) in
     let a = s .args in
-    pair-agrees (tables-of s) (a .level) (a .first .row) (a .second .row) (paired t (loop-at i)) (one-more t i) (other-more t i)
+    pair-agrees (valuesBy (a .values)) (tables-of s) (a .level) (a .first .row) (a .second .row) (paired t (loop-at i)) (one-more t i) (other-more t i)
     (c .before .before .before .before .same-component .ensures) (not-false _ (c .before .before .if3 .left))
 
 loop-less : Asks lts.Need-loop-less
@@ -249,7 +251,7 @@ returns-3 t c =
     let n = l .before in
     let s = start-at n in
     let a = s .args in
-    pairs-told (tables-of s) (a .level) (a .first .row) (a .second .row) (s .pre .1 .0) (s .pre .1 .1 .0 .there) (s .pre .1 .1 .1 .there)
+    pairs-told (valuesBy (a .values)) (tables-of s) (a .level) (a .first .row) (a .second .row) (s .pre .1 .0) (s .pre .1 .1 .0 .there) (s .pre .1 .1 .1 .there)
     (one-ends t n) (other-ends t n) (head-at n .same-head .ensures) (agreed t n) (paired t l) (over-at c .if2 .left) (c .before .moved3 .ensures) (c .moved4 .ensures)
 
 pub +same-component-spec : {M : Type 1} → statement M

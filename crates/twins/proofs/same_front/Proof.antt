@@ -10,6 +10,7 @@ use Rattle.tables.specs.Rows.{propertySize, propertyAt}
 use Rattle.tables.specs.Lent.{parametersIn}
 use Rattle.walking.specs.Walk.{ownedBy, stands}
 use Rattle.walking.proofs.Lockstep.{is-there}
+use Rattle.matching.specs.Tests.{valuesBy}
 use Rattle.twins.proofs.Front.{fronts-differ}
 use Rattle.twins.proofs.same_front.Statement.{statement}
 use Rattle.twins.proofs.same_front.Tie as tie
@@ -63,7 +64,7 @@ returns-3 : tie.Need-returns-3
 returns-3 c = λ e.
     let p = c .before in
     let s = start-at p in
-    fronts-differ (s .args .text .now) (words-of p) (parametersIn (s .args .parameters .now)) (s .pre .0) (one-at p .front-of .ensures) (other-at p .front-of2 .ensures)
+    fronts-differ (s .args .text .now) (words-of p) (parametersIn (s .args .parameters .now)) (s .pre .0) (valuesBy (s .args .values)) (one-at p .front-of .ensures) (other-at p .front-of2 .ensures)
     (one-own p) (other-own p) (sym (c .same-property .ensures) ∙ e)
 
 pub same-front-spec : {M : Type 1} → statement M

@@ -5,6 +5,7 @@ use borrow.Author.Tests.{not-true, not-false}
 use Rattle.tables.specs.Lent.{Lent, lent, componentsIn, nameIn}
 use Rattle.walking.proofs.Rows.{row-there}
 use Rattle.matching.specs.Alike.{sameName}
+use Rattle.matching.specs.Tests.{valuesBy}
 use Rattle.twins.proofs.Pairs.{names-are, names-differ, owns, heads-told}
 use Rattle.twins.proofs.same_head.Statement.{statement}
 use Rattle.twins.proofs.same_head.Tie as tie
@@ -47,7 +48,7 @@ returns : tie.Need-returns
 returns c =
     let s = start-at (c .before) in
     let a = s .args in
-    names-differ (tables-of s) (a .first .row) (a .second .row) (names (c .before) ∙ not-true _ (c .if1 .taken))
+    names-differ (valuesBy (a .values)) (tables-of s) (a .first .row) (a .second .row) (names (c .before) ∙ not-true _ (c .if1 .taken))
 
 side-of-requires : tie.Need-side-of-requires
 side-of-requires c κs = let p = start-at (c .before) .pre .1 .0 in (p .there, (p .reached, p .order))
@@ -73,7 +74,7 @@ returns-2 c =
     let s = start-at (n .before) in
     let x = w .before .side-of .ensures in
     let y = w .side-of2 .ensures in
-    heads-told (tables-of s) (s .args .first .row) (s .args .second .row) (names (n .before) ∙ not-false _ (n .if1 .left)) (c .before .before .same-properties .ensures)
+    heads-told (valuesBy (s .args .values)) (tables-of s) (s .args .first .row) (s .args .second .row) (names (n .before) ∙ not-false _ (n .if1 .left)) (c .before .before .same-properties .ensures)
     (x .0) (x .1) (c .before .inside .ensures) (y .0) (y .1) (c .inside2 .ensures)
 
 pub same-head-spec : {M : Type 1} → statement M

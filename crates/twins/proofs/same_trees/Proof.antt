@@ -10,6 +10,7 @@ use Rattle.tables.specs.Lent.{Lent, lent}
 use Rattle.tables.proofs.Nested.{depthOf, rows-nested}
 use Rattle.walking.proofs.Along.{comps}
 use Rattle.walking.proofs.Rows.{row-there}
+use Rattle.matching.specs.Tests.{valuesBy}
 use Rattle.twins.proofs.Pairs.{properties-differ, sizes-differ}
 use Rattle.twins.proofs.same_trees.Statement.{statement}
 use Rattle.twins.proofs.same_trees.Tie as tie
@@ -31,7 +32,7 @@ returns : tie.Need-returns
 returns c =
     let f = c .before in
     let s = start-at f in
-    sym (properties-differ (tables-of s) 63 (s .args .first .row) (s .args .second .row) (f .same-front .ensures (not-true _ (c .if1 .taken))))
+    sym (properties-differ (valuesBy (s .args .values)) (tables-of s) 63 (s .args .first .row) (s .args .second .row) (f .same-front .ensures (not-true _ (c .if1 .taken))))
 
 same-size-requires : tie.Need-same-size-requires
 same-size-requires c κs =
@@ -45,7 +46,7 @@ returns-2 c =
     let a = s .args in
     let h = s .pre .1 .0 .there in
     let k = s .pre .1 .1 .there in
-    sym (sizes-differ (tables-of s) 63 (a .first .row) (a .second .row) (s .pre .0) h k (deep s (a .first .row) h) (deep s (a .second .row) k)
+    sym (sizes-differ (valuesBy (a .values)) (tables-of s) 63 (a .first .row) (a .second .row) (s .pre .0) h k (deep s (a .first .row) h) (deep s (a .second .row) k)
     (sym (c .before .same-size .ensures) ∙ not-true _ (c .if2 .taken)))
 
 sub-same-component : tie.Need-sub-same-component

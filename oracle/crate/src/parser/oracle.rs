@@ -8,15 +8,16 @@ use super::utils::{property_key, unfold, valid_key_sequence};
 use crate::properties::{fold_line, oracle_quote_special_chars};
 use crate::text::{escape_text, unescape_text};
 use nom_language::error::VerboseError;
+use std::borrow::Cow;
 use std::fmt::Write as _;
 use std::io::{Read, Write as _};
 use std::time::Instant;
 
 type VE<'a> = VerboseError<&'a str>;
 
-const PARTS: [&str; 16] = [
+const PARTS: [&str; 17] = [
     "unfold", "key", "keyseq", "param", "params", "fold", "quote", "read", "write", "readwrite",
-    "escape", "unescape", // compared
+    "escape", "unescape", "strict", // compared
     "property", "readrest", "components", // to look at only
     "replay", // any of those with a letter, named by each case itself
 ];
@@ -35,6 +36,9 @@ fn lettered(case: &[u8]) -> Option<(&'static str, &[u8])> {
         b'r' => "read",
         b'w' => "write",
         b'W' => "readwrite",
+        b'e' => "escape",
+        b't' => "unescape",
+        b'T' => "strict",
         _ => return None,
     };
     Some((part, rest))
@@ -159,6 +163,12 @@ pub fn folded(line: &str) -> String {
 pub fn quoted(value: &str) -> String {
     oracle_quote_special_chars(value)
 }
+pub fn escaped(text: &str) -> String {
+    escape_text(text)
+}
+pub fn unescaped(value: &str) -> Cow<'_, str> {
+    unescape_text(value)
+}
 
 fn one(part: &str, raw: &[u8]) -> String {
     if part == "replay" {
@@ -212,7 +222,8 @@ fn one(part: &str, raw: &[u8]) -> String {
             Err(_) => err(),
         },
         "escape" => ok_hex(&escape_text(s)),
-        "unescape" => ok_hex(&unescape_text(s)),
+        // the same for both: `\:` is outside the domain of `strict`
+        "unescape" | "strict" => ok_hex(&unescape_text(s)),
 
         // the bytes that `property` used, and the property in a component X
         "property" => match property::<VE>(s) {

@@ -1,4 +1,4 @@
--- `twins::compare_twins`: the table rule, the two numbers, and then the trees.
+-- `twins::compare`: the table rule, the two numbers, and then the trees.
 use native.Mathlib.Omega.{arith}
 use mathlib.Core.Path.{_≡_, sym, ap, _∙_}
 use Prim.Native.Nat.{ℕ, _<_, zero-le}
@@ -13,10 +13,11 @@ use Rattle.walking.specs.Walk.{Reached}
 use Rattle.walking.proofs.Along.{comps, props, params}
 use Rattle.walking.proofs.Rows.{ruled}
 use Rattle.walking.proofs.Walks.{reached-start, reached-on}
+use Rattle.matching.specs.Tests.{valuesBy}
 use Rattle.twins.specs.Answers.{compared}
 use Rattle.twins.proofs.Answers.{broken-row, no-first, no-second, told}
-use Rattle.twins.proofs.compare_twins.Statement.{statement}
-use Rattle.twins.proofs.compare_twins.Tie as tie
+use Rattle.twins.proofs.compare.Statement.{statement}
+use Rattle.twins.proofs.compare.Tie as tie
 
 abbrev start-at : tie.After-first-broken → tie.Start
 start-at c = c .before .before .before .before .before
@@ -64,7 +65,7 @@ returns : tie.Need-returns
 returns c =
     let f = c .before .before .before .before in
     let s = start-at f in
-    c .refuse .ensures ∙ sym (broken-row (tables-of s) (s .args .first) (s .args .second) (sym (f .first-broken .ensures) ∙ c .before .before .broken .given .1))
+    c .refuse .ensures ∙ sym (broken-row (valuesBy (s .args .values)) (tables-of s) (s .args .first) (s .args .second) (sym (f .first-broken .ensures) ∙ c .before .before .broken .given .1))
 
 enum-told : tie.Need-enum-told
 enum-told c = search needs
@@ -79,7 +80,7 @@ returns-2 : tie.Need-returns-2
 returns-2 c =
     let n = c .before .before in
     let s = begun-at n in
-    c .refuse2 .ensures ∙ sym (no-first (tables-of s) (s .args .first) (s .args .second) (sound n) (omega (arith, rows-are n, c .before .if1 .taken)))
+    c .refuse2 .ensures ∙ sym (no-first (valuesBy (s .args .values)) (tables-of s) (s .args .first) (s .args .second) (sound n) (omega (arith, rows-are n, c .before .if1 .taken)))
 
 refuse-requires-3 : tie.Need-refuse-requires-3
 refuse-requires-3 c κs = search needs
@@ -89,7 +90,7 @@ returns-3 c =
     let n = c .before .before .before in
     let s = begun-at n in
     c .refuse3 .ensures
-    ∙ sym (no-second (tables-of s) (s .args .first) (s .args .second) (sound n) (omega (arith, rows-are n, c .before .before .if1 .left))
+    ∙ sym (no-second (valuesBy (s .args .values)) (tables-of s) (s .args .first) (s .args .second) (sound n) (omega (arith, rows-are n, c .before .before .if1 .left))
     (omega (arith, rows-are n, c .before .if2 .taken)))
 
 in-order-requires : tie.Need-in-order-requires
@@ -115,10 +116,10 @@ returns-4 c =
     let e = c .before .before .before in
     let s = begun-at (rows-at e) in
     ap (compared done 0) (c .as-number .ensures ∙ rw (c .before .same-trees .ensures))
-    ∙ sym (told (tables-of s) (s .args .first) (s .args .second) (sound (rows-at e)) (first-there e) (second-there e))
+    ∙ sym (told (valuesBy (s .args .values)) (tables-of s) (s .args .first) (s .args .second) (sound (rows-at e)) (first-there e) (second-there e))
 
-pub compare-twins-spec : {M : Type 1} → statement M
-compare-twins-spec =
+pub compare-spec : {M : Type 1} → statement M
+compare-spec =
     tie.close
     (tie.spec
     first-broken-requires
