@@ -10,7 +10,7 @@ use Rattle.parameters.specs.Parameter.{paramOf, frontOf}
 use Rattle.parameters.specs.Parameters.{paramsAfter, paramsUsed}
 use Rattle.lines.specs.Split.{Placed, linesFrom, linesAfter}
 use Rattle.lines.specs.Rule.{lineOf}
-use Rattle.lines.specs.declared.Fault.the-variants.{BadLine}
+use Rattle.lines.specs.declared.Fault.the-variants.{ReservedKey, EmptyKey, StrayByte}
 use Rattle.lines.specs.declared.Line.{Line}
 use Rattle.lines.specs.declared.Line.the-variants.{Empty, Begin, BadBegin, End, Content, Bad}
 
@@ -38,7 +38,17 @@ values : map lineOf (bytes "K:vw" ∷ bytes "K;P=a;Q:v:w" ∷ bytes "K:" ∷ byt
 unfolding bytes runs.run startsWord quotedLen furtherAfter formOf paramOf frontOf paramsAfter paramsUsed lineOf
 values = refl
 
--- "Anything else is BadLine."
-bad : map lineOf (bytes ":v" ∷ bytes "K v" ∷ bytes "BEGIN" ∷ bytes "end;P:v" ∷ []) ≡ Bad BadLine ∷ Bad BadLine ∷ Bad BadLine ∷ Bad BadLine ∷ []
+-- document 02, request 2: "an empty key, a reserved key, and a stray byte after key or parameters"; "the byte's own offset"
+reserved : map lineOf (bytes "BEGIN" ∷ bytes "end;P:v" ∷ []) ≡ Bad ReservedKey ∷ Bad ReservedKey ∷ []
 unfolding bytes runs.run startsWord quotedLen furtherAfter formOf paramOf frontOf paramsAfter paramsUsed lineOf
-bad = refl
+reserved = refl
+
+empty : map lineOf (bytes ":v" ∷ bytes " K:v" ∷ bytes ";P:v" ∷ []) ≡ Bad EmptyKey ∷ Bad EmptyKey ∷ Bad EmptyKey ∷ []
+unfolding bytes runs.run startsWord quotedLen furtherAfter formOf paramOf frontOf paramsAfter paramsUsed lineOf
+empty = refl
+
+-- BEGIN and END with such a byte behind them are keys, and not reserved
+stray : map lineOf (bytes "K v" ∷ bytes "K;P=\"a\"b:v" ∷ bytes "K;P=\"a\",b:v" ∷ bytes "K;P =a:v" ∷ bytes "BEGIN x" ∷ bytes "END\r" ∷ [])
+    ≡ Bad (StrayByte 1) ∷ Bad (StrayByte 7) ∷ Bad (StrayByte 7) ∷ Bad (StrayByte 3) ∷ Bad (StrayByte 5) ∷ Bad (StrayByte 3) ∷ []
+unfolding bytes runs.run startsWord quotedLen furtherAfter formOf paramOf frontOf paramsAfter paramsUsed lineOf
+stray = refl

@@ -19,7 +19,7 @@ use Rattle.parameters.specs.Values.{span}
 use Rattle.parameters.specs.Parameters.{passedOf}
 use Rattle.parameters.specs.declared.Passed.{Passed}
 use Rattle.parameters.proofs.Lists.{params-within}
-use Rattle.lines.specs.declared.Fault.the-variants.{BadLine}
+use Rattle.lines.specs.declared.Fault.the-variants.{ReservedKey, EmptyKey, StrayByte}
 use Rattle.lines.specs.declared.Line.the-variants.{Empty, Begin, BadBegin, End, Bad}
 use Rattle.lines.specs.Rule.{afterBegin, afterEnd, beginOf, property, valueFrom, afterKey, byKey, beginMark, endMark, lineOf}
 
@@ -31,10 +31,10 @@ begun line n t e p =
 
 -- ---- the property rule, by its key
 
-pub refused-key : (line : List ℕ) → keyOf line ≡ Reserved → byKey (keyOf line) line ≡ Bad BadLine
+pub refused-key : (line : List ℕ) → keyOf line ≡ Reserved → byKey (keyOf line) line ≡ Bad ReservedKey
 refused-key line e = rw e
 
-pub empty-key : (line : List ℕ) (n : ℕ) → keyOf line ≡ Run n → n ≡ 0 → byKey (keyOf line) line ≡ Bad BadLine
+pub empty-key : (line : List ℕ) (n : ℕ) → keyOf line ≡ Run n → n ≡ 0 → byKey (keyOf line) line ≡ Bad EmptyKey
 empty-key line n e z = rw (e, eq-eqb n 0 z)
 
 pub key-within : (line : List ℕ) (n : ℕ) → keyOf line ≡ Run n → n ≤ length line
@@ -52,7 +52,7 @@ module _ (line : List ℕ) (n : ℕ) (q : Passed) (e : keyOf line ≡ Run n) (so
   at-end h = behind-key ∙ rw (eq-eqb (n + q .used) (length line) h)
 
   module _ (short : n + q .used ≡ length line → ⊥) where
-    pub stray : (getD line (n + q .used) 0 ≡ colon → ⊥) → byKey (keyOf line) line ≡ Bad BadLine
+    pub stray : (getD line (n + q .used) 0 ≡ colon → ⊥) → byKey (keyOf line) line ≡ Bad (StrayByte (n + q .used))
     stray h = behind-key ∙ rw (ne-eqb (n + q .used) (length line) short, ne-eqb (getD line (n + q .used) 0) colon h)
 
     pub valued : getD line (n + q .used) 0 ≡ colon

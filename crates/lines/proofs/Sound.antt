@@ -19,7 +19,7 @@ use Rattle.parameters.specs.Values.{span}
 use Rattle.parameters.specs.Parameters.{passedOf}
 use Rattle.parameters.specs.declared.Passed.{Passed}
 use Rattle.parameters.proofs.Lists.{params-few}
-use Rattle.lines.specs.declared.Fault.the-variants.{BadLine}
+use Rattle.lines.specs.declared.Fault.the-variants.{ReservedKey, EmptyKey, StrayByte}
 use Rattle.lines.specs.declared.Line.the-variants.{Empty, Begin, BadBegin, End, Content, Bad}
 use Rattle.lines.specs.Sound.{Sound}
 use Rattle.lines.specs.Rule.{afterBegin, afterEnd, beginOf, valueFrom, byKey, beginMark, endMark, lineOf}
@@ -47,18 +47,18 @@ module _ (line : List ℕ) (n : ℕ) (some : n ≡ 0 → ⊥) (h : n ≤ length 
     where
       go : (t : Bool) → eqb (n + q .used) (length line) ≡ t → (u : Bool)
           → Sound line (pick t (Content (record { key = span 0 n; parameters = q .count; value = span (n + q .used) 0 }))
-          (pick u (Content (record { key = span 0 n; parameters = q .count; value = span (n + q .used + 1) (length line - (n + q .used + 1)) })) (Bad BadLine)))
+          (pick u (Content (record { key = span 0 n; parameters = q .count; value = span (n + q .used + 1) (length line - (n + q .used + 1)) })) (Bad (StrayByte (n + q .used)))))
       go true e u = record { front = refl; some = omega arith; count = refl; fewer = few; behind = omega arith; value = omega (arith, at-most) }
       go false e true =
           let ne = eqb-false (n + q .used) (length line) e in
           record { front = refl; some = omega arith; count = refl; fewer = few; behind = omega arith; value = omega (arith, at-most, ne) }
-      go false e false = tt
+      go false e false = omega (arith, at-most, eqb-false (n + q .used) (length line) e)
 
 sound-key : (line : List ℕ) (k : Key) → keyOf line ≡ k → Sound line (byKey k line)
 sound-key line Reserved e = tt
 sound-key line (Run n) e = go (eqb n 0) refl
   where
-    go : (t : Bool) → eqb n 0 ≡ t → Sound line (pick t (Bad BadLine) (valueFrom n (passedOf (drop n line) .count) (n + passedOf (drop n line) .used) line))
+    go : (t : Bool) → eqb n 0 ≡ t → Sound line (pick t (Bad EmptyKey) (valueFrom n (passedOf (drop n line) .count) (n + passedOf (drop n line) .used) line))
     go true p = tt
     go false p = sound-value line n (eqb-false n 0 p) (key-within line n e)
 

@@ -1,4 +1,5 @@
--- What a line is, by itself (document 01, "Lines and nesting"; RFC 5545, section 3.1, `contentline`). Offsets count in the line.
+-- What a line is, by itself (document 01, "Lines and nesting"; RFC 5545, section 3.1, `contentline`), and what is wrong with one that is no property
+-- (document 02, request 2). Offsets count in the line.
 -- Here document 01 departs from the RFC: docs/DIFFERENCES.md, R-4, R-5, R-15, R-16, R-17.
 -- Assumes nothing.
 use Prim.Native.Nat.{ℕ, _+_, _-_}
@@ -17,7 +18,7 @@ use Rattle.octets.specs.declared.Span.{Span}
 use Rattle.parameters.specs.Values.{span}
 use Rattle.parameters.specs.Parameters.{passedOf}
 use Rattle.parameters.specs.declared.Passed.{Passed}
-use Rattle.lines.specs.declared.Fault.the-variants.{BadLine}
+use Rattle.lines.specs.declared.Fault.the-variants.{ReservedKey, EmptyKey, StrayByte}
 use Rattle.lines.specs.declared.Line.{Line}
 use Rattle.lines.specs.declared.Line.the-variants.{Empty, Begin, BadBegin, End, Content, Bad}
 
@@ -45,20 +46,20 @@ beginOf line =
 abbrev pub property : ℕ → ℕ → Span → Line
 property key parameters value = Content (record { key = span 0 key; parameters = parameters; value = value })
 
--- behind the key and its parameters, at `at`: the end of the line, with an empty value, or `:` and the value
+-- behind the key and its parameters, at `at`: the end of the line, with an empty value, or `:` and the value; any other byte is stray
 abbrev pub valueFrom : ℕ → ℕ → ℕ → List ℕ → Line
 valueFrom key parameters at line =
     pick (eqb at (length line))
     (property key parameters (span at 0))
-    (pick (eqb (getD line at 0) colon) (property key parameters (span (at + 1) (length line - (at + 1)))) (Bad BadLine))
+    (pick (eqb (getD line at 0) colon) (property key parameters (span (at + 1) (length line - (at + 1)))) (Bad (StrayByte at)))
 
 abbrev pub afterKey : ℕ → Passed → List ℕ → Line
 afterKey key passed line = valueFrom key (passed .count) (key + passed .used) line
 
--- the property rule: a key of at least one byte, parameters, and the value
+-- the property rule: a key that is not reserved and has at least one byte, parameters, and the value
 abbrev pub byKey : Key → List ℕ → Line
-byKey Reserved line = Bad BadLine
-byKey (Run n) line = pick (eqb n 0) (Bad BadLine) (afterKey n (passedOf (drop n line)) line)
+byKey Reserved line = Bad ReservedKey
+byKey (Run n) line = pick (eqb n 0) (Bad EmptyKey) (afterKey n (passedOf (drop n line)) line)
 
 unfoldable pub lineOf : List ℕ → Line
 lineOf line =

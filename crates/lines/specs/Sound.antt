@@ -7,6 +7,8 @@ use lib.ListN.{length, drop}
 use Rattle.parameters.specs.Parameters.{paramsOf, paramsUsed}
 use Rattle.lines.specs.Rule.{afterBegin, afterEnd}
 use Rattle.lines.specs.declared.Property.{Property}
+use Rattle.lines.specs.declared.Fault.{Fault}
+use Rattle.lines.specs.declared.Fault.the-variants.{ReservedKey, EmptyKey, StrayByte}
 use Rattle.lines.specs.declared.Line.{Line}
 use Rattle.lines.specs.declared.Line.the-variants.{Empty, Begin, BadBegin, End, Content, Bad}
 
@@ -18,10 +20,15 @@ pub record SoundProperty (line : List ℕ) (p : Property) : Type 0 where
   pub behind : p .key .len + paramsUsed (paramsOf (drop (p .key .len) line) 0) ≤ p .value .start
   pub value : p .value .start + p .value .len ≤ length line
 
+abbrev pub SoundFault : List ℕ → Fault → Type 0
+SoundFault line ReservedKey = Unit
+SoundFault line EmptyKey = Unit
+SoundFault line (StrayByte at) = at < length line
+
 abbrev pub Sound : List ℕ → Line → Type 0
 Sound line Empty = Unit
 Sound line (Begin name) = (name .start ≡ afterBegin) × (afterBegin + name .len ≡ length line)
 Sound line BadBegin = Unit
 Sound line (End rest) = (rest .start ≡ afterEnd) × (afterEnd + rest .len ≡ length line)
 Sound line (Content p) = SoundProperty line p
-Sound line (Bad fault) = Unit
+Sound line (Bad fault) = SoundFault line fault

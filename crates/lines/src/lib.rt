@@ -15,9 +15,14 @@ pub struct Extent {
     pub next: usize,
 }
 
-// What is wrong with a line that no BEGIN and no END is.
+// What is wrong with a line that no BEGIN and no END is, and no property.
 pub enum Fault {
-    BadLine,
+    // Its key is BEGIN or END.
+    ReservedKey,
+    // It has no key.
+    EmptyKey,
+    // Behind its key and parameters stands neither a colon nor the end, but a byte at this offset in the line.
+    StrayByte(usize),
 }
 
 pub struct Property {
@@ -93,10 +98,10 @@ fn property_line(line: &[u8]) -> Line
     ensures { λ r. ⌜ r ≡ byKey (keyOf (now (line .entry))) (now (line .entry)) ⌝ }
 {
     let Key::Run(n) = octets::property_key(line) else {
-        return Line::Bad(Fault::BadLine);
+        return Line::Bad(Fault::ReservedKey);
     };
     if n == 0 {
-        return Line::Bad(Fault::BadLine);
+        return Line::Bad(Fault::EmptyKey);
     }
     let key = Span { start: 0, len: n };
     let passed = parameters::parameters(&line[n..]);
@@ -109,7 +114,7 @@ fn property_line(line: &[u8]) -> Line
         });
     }
     if line[at] != b':' {
-        return Line::Bad(Fault::BadLine);
+        return Line::Bad(Fault::StrayByte(at));
     }
     let start = at + 1;
     Line::Content(Property {

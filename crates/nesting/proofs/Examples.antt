@@ -8,7 +8,7 @@ use Rattle.parameters.specs.Parameter.{frontOf}
 use Rattle.parameters.specs.Parameters.{paramsAfter, paramsUsed}
 use Rattle.lines.specs.Split.{linesAfter}
 use Rattle.lines.specs.Rule.{lineOf}
-use Rattle.lines.specs.declared.Fault.the-variants.{BadLine}
+use Rattle.lines.specs.declared.Fault.the-variants.{ReservedKey, EmptyKey, StrayByte}
 use Rattle.nesting.specs.Steps.{readLines, outcomeOf}
 use Rattle.nesting.specs.declared.Refusal.{Refusal}
 use Rattle.nesting.specs.declared.Outcome.the-variants.{Read, Refused}
@@ -23,9 +23,14 @@ ends : map outcomeOf (bytes "BEGIN:A\nEND:A\n" ∷ bytes "BEGIN:A\nEND:a\n" ∷ 
 unfolding bytes runs.run sameBytes startsWord frontOf paramsAfter paramsUsed linesAfter lineOf readLines outcomeOf
 ends = refl
 
--- "any other line with nothing open" is Outside, also one that breaks the property rule; inside it is BadLine; both at the "line start"
-outside : map outcomeOf (bytes "K:v\n" ∷ bytes "\n:v\n" ∷ bytes "BEGIN:A\n:v\n" ∷ [])
-    ≡ Refused Refusal.Outside 0 ∷ Refused Refusal.Outside 1 ∷ Refused (Refusal.Line BadLine) 8 ∷ []
+-- "any other line with nothing open" is Outside, also one that breaks the property rule; inside it is refused for its fault; all are met at the "line start"
+outside : map outcomeOf (bytes "K:v\n" ∷ bytes "\n:v\n" ∷ bytes "BEGIN:A\n:v\n" ∷ bytes "BEGIN:A\nend\n" ∷ bytes "BEGIN:A\nK v\n" ∷ [])
+    ≡ Refused Refusal.Outside 0
+    ∷ Refused Refusal.Outside 1
+    ∷ Refused (Refusal.Line EmptyKey) 8
+    ∷ Refused (Refusal.Line ReservedKey) 8
+    ∷ Refused (Refusal.Line (StrayByte 1)) 8
+    ∷ []
 unfolding bytes runs.run sameBytes startsWord frontOf paramsAfter paramsUsed linesAfter lineOf readLines outcomeOf
 outside = refl
 

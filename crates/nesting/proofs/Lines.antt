@@ -1,5 +1,6 @@
--- Every line of a text that is read to the end: what holds at its start, and stays from line to line, holds at its end. Assumes nothing.
-use mathlib.Core.Path.{_≡_, refl}
+-- Every line of a text: what holds at the start and stays from line to line holds at the end; and where a run stops stands a line that is refused.
+-- Assumes nothing.
+use mathlib.Core.Path.{_≡_, refl, ap, _∙_}
 use mathlib.Core.Bool.{Bool, true, false}
 use mathlib.Core.List.{List, [], _∷_}
 use Prim.Native.Nat.{ℕ, zero, suc, _+_, _-_, _≤_, _<_}
@@ -15,7 +16,7 @@ use Rattle.lines.specs.Sound.{Sound}
 use Rattle.lines.specs.declared.Line.{Line}
 use Rattle.lines.proofs.Split.{line-within, content-within}
 use Rattle.lines.proofs.Sound.{sound}
-use Rattle.nesting.specs.Steps.{State, nothing, checkOf, after, Run, finished, onward, readLines, runOf}
+use Rattle.nesting.specs.Steps.{State, nothing, checkOf, after, Run, finished, stopped, onward, readLines, runOf}
 use Rattle.nesting.specs.declared.Check.{Check}
 use Rattle.nesting.specs.declared.Entry.{Entry}
 use Rattle.nesting.specs.declared.Refusal.{Refusal}
@@ -53,3 +54,45 @@ module _ (text : List ℕ) (Holds : ℕ → State → Type 0) (further : (at at�
 
   pub at-the-end : Holds 0 nothing → (end : State) → runOf text ≡ finished end → Holds (length text) end
   at-the-end w end e = along 0 0 text (omega arith) (omega arith) nothing end w e
+
+-- ---- where a run stops
+
+-- a line of the text, from `start` on, that is refused by its check
+pub record RefusedAt (text : List ℕ) (r : Refusal) (start : ℕ) : Type 0 where
+  pub line : List ℕ
+  pub opens : List Entry
+  pub inside : start + length line ≤ length text
+  pub refused : checkOf text line (lineOf line) opens ≡ Check.Bad r
+
+module _ (text : List ℕ) (r : Refusal) (start : ℕ) where
+  stops-at : (at k : ℕ) (xs : List ℕ) → at + length xs ≡ length text → (s : State) → readLines text (linesAfter at k xs) s ≡ stopped r start → RefusedAt text r start
+  unfolding readLines linesAfter
+  stops-at at k [] h s e = absurd (let z : _≡_ {A = ℕ} 0 1 = cc in omega arith)
+  stops-at at zero (x ∷ xs) h s e =
+      go (checkOf text line (lineOf line) (s .opens)) refl e (stops-at (at + 1) (lineLen (x ∷ xs) - 1) xs (omega arith) next)
+    where
+      line : List ℕ
+      line = take (contentLen (x ∷ xs)) (x ∷ xs)
+
+      next : State
+      next = after at line (lineOf line) s
+
+      rest : Run
+      rest = readLines text (linesAfter (at + 1) (lineLen (x ∷ xs) - 1) xs) next
+
+      go : (c : Check) → checkOf text line (lineOf line) (s .opens) ≡ c → onward c at rest ≡ stopped r start → (rest ≡ stopped r start → RefusedAt text r start)
+          → RefusedAt text r start
+      go Check.Fine c e ih = ih e
+      go (Check.Bad y) c e ih =
+          let same : y ≡ r = cc in
+          let here : at ≡ start = cc in
+          record {
+            line = line;
+            opens = s .opens;
+            inside = omega (arith, length-take (contentLen (x ∷ xs)) (x ∷ xs));
+            refused = c ∙ ap Check.Bad same;
+          }
+  stops-at at (suc k) (x ∷ xs) h s e = stops-at (at + 1) k xs (omega arith) s e
+
+  pub refused-line : runOf text ≡ stopped r start → RefusedAt text r start
+  refused-line e = stops-at 0 0 text (omega arith) nothing e

@@ -60,7 +60,7 @@ pub enum Check {
     Bad(Refusal),
 }
 
-// What a text alone answers: the rows it needs, or the refusal and its place.
+// What a text alone answers: the rows it needs, or the refusal and where it was met: at the start of a line, or at the end of the text.
 pub enum Outcome {
     Read(Counts),
     Refused(Refusal, usize),

@@ -34,8 +34,9 @@ badEnd = 5
 abbrev pub outside : ℕ
 outside = 6
 
-abbrev pub badLine : ℕ
-badLine = 7
+-- document 02, request 2: of a line that is no property, with 17 and 18
+abbrev pub emptyKey : ℕ
+emptyKey = 7
 
 abbrev pub unclosed : ℕ
 unclosed = 8
@@ -64,6 +65,13 @@ unwritable = 15
 -- document 02, request 1
 abbrev pub badEscape : ℕ
 badEscape = 16
+
+-- document 02, request 2
+abbrev pub reservedKey : ℕ
+reservedKey = 17
+
+abbrev pub strayByte : ℕ
+strayByte = 18
 
 -- the three numbers of a fold, of quoting and of the writer
 abbrev pub output : ℕ → ℕ → ℕ → Output

@@ -38,7 +38,7 @@ pub const BAD_END: u32 = 5;
 
 pub const OUTSIDE: u32 = 6;
 
-pub const BAD_LINE: u32 = 7;
+pub const EMPTY_KEY: u32 = 7;
 
 pub const UNCLOSED: u32 = 8;
 
@@ -57,6 +57,10 @@ pub const BAD_TABLE: u32 = 14;
 pub const UNWRITABLE: u32 = 15;
 
 pub const BAD_ESCAPE: u32 = 16;
+
+pub const RESERVED_KEY: u32 = 17;
+
+pub const STRAY_BYTE: u32 = 18;
 
 // What a fold, quoting or the writer answers: on NO_OUT_ROOM the length is the one needed.
 pub struct Output {

@@ -8,20 +8,27 @@ use Rattle.octets.specs.Words.{sameBytes, startsWord}
 use Rattle.unfolding.specs.Unfold.{unfoldedAfter}
 use Rattle.lines.specs.Split.{linesAfter}
 use Rattle.lines.specs.Rule.{lineOf}
-use Rattle.lines.specs.declared.Fault.the-variants.{BadLine}
+use Rattle.lines.specs.declared.Fault.the-variants.{ReservedKey, EmptyKey, StrayByte}
 use Rattle.tables.specs.Lent.{Lent, lent}
 use Rattle.tables.specs.Rows.{flat}
 use Rattle.nesting.specs.Steps.{readLines, outcomeOf}
 use Rattle.nesting.specs.declared.Refusal.{Refusal}
-use Rattle.reading.specs.Answers.{numberOf, readingOf, textAfter}
+use Rattle.reading.specs.Answers.{numberOf, placeOf, readingOf, textAfter}
 use Rattle.reading.specs.Lent.{readInto, left}
 use Rattle.reading.specs.declared.Reading.{Reading}
 
--- "3 BadBegin, 4 TooDeep, 5 BadEnd, 6 Outside, 7 BadLine, 8 Unclosed, 9 NoComponent"
-numbered : map numberOf
-    (Refusal.BadBegin ∷ Refusal.TooDeep ∷ Refusal.BadEnd ∷ Refusal.Outside ∷ Refusal.Line BadLine ∷ Refusal.Unclosed ∷ Refusal.NoComponent ∷ [])
-    ≡ 3 ∷ 4 ∷ 5 ∷ 6 ∷ 7 ∷ 8 ∷ 9 ∷ []
+-- "3 BadBegin, 4 TooDeep, 5 BadEnd, 6 Outside, 8 Unclosed, 9 NoComponent"
+numbered : map numberOf (Refusal.BadBegin ∷ Refusal.TooDeep ∷ Refusal.BadEnd ∷ Refusal.Outside ∷ Refusal.Unclosed ∷ Refusal.NoComponent ∷ [])
+    ≡ 3 ∷ 4 ∷ 5 ∷ 6 ∷ 8 ∷ 9 ∷ []
 numbered = refl
+
+-- document 02, request 2: "7 then means empty key, 17 ReservedKey is checked before it, 18 StrayByte after it"; "The stray one gives the byte's own offset,
+-- the others the line start"
+abbrev faults : List Refusal
+faults = Refusal.Line ReservedKey ∷ Refusal.Line EmptyKey ∷ Refusal.Line (StrayByte 5) ∷ []
+
+faults-numbered : (map numberOf faults ≡ 17 ∷ 7 ∷ 18 ∷ []) × (map (λ (r : Refusal). placeOf r 30) faults ≡ 30 ∷ 30 ∷ 35 ∷ [])
+faults-numbered = (refl, refl)
 
 abbrev six : ℕ → ℕ → ℕ → ℕ → ℕ → ℕ → Reading
 six answer place length components properties parameters =

@@ -1,5 +1,5 @@
 -- Laws of the six numbers and of what a reading leaves. Assumes nothing.
-use mathlib.Core.Path.{_≡_, refl, sym, ap, _∙_}
+use mathlib.Core.Path.{_≡_, refl, sym, ap, subst, _∙_}
 use mathlib.Core.Bool.{Bool, true, false}
 use mathlib.Core.List.{List, _++_}
 use Prim.Native.Nat.{ℕ, _+_, _-_, _*_, _/_, _≤_, _<_}
@@ -15,7 +15,10 @@ use Rattle.octets.proofs.Bools.{both}
 use Rattle.octets.proofs.Laid.{whole, length-laid}
 use Rattle.octets.specs.Answers.{longest, done, noRoom, noTextRoom, tooLong}
 use Rattle.unfolding.specs.Unfold.{unfolded}
-use Rattle.lines.specs.declared.Fault.the-variants.{BadLine}
+use Rattle.lines.specs.declared.Fault.the-variants.{ReservedKey, EmptyKey, StrayByte}
+use Rattle.lines.specs.Rule.{lineOf}
+use Rattle.lines.specs.Sound.{Sound}
+use Rattle.lines.proofs.Sound.{sound}
 use Rattle.tables.specs.Rows.{flat, componentSize, propertySize}
 use Rattle.tables.proofs.Laws.{Shape, component-shape, property-shape, parameter-shape}
 use Rattle.nesting.specs.Steps.{State, Run, finished, stopped, runOf, endedAt, judged, outcomeOf, countsOf}
@@ -24,8 +27,10 @@ use Rattle.nesting.specs.declared.Counts.{Counts}
 use Rattle.nesting.specs.declared.Refusal.{Refusal}
 use Rattle.nesting.specs.declared.Outcome.the-variants.{Read, Refused}
 use Rattle.nesting.proofs.Tables.{all-put}
+use Rattle.nesting.proofs.Checks.{fault-of}
+use Rattle.nesting.proofs.Lines.{RefusedAt, refused-line}
 use Rattle.reading.specs.declared.Reading.{Reading}
-use Rattle.reading.specs.Answers.{numberOf, told, refusal, roomFor, fits, readText, readingOf, laidWhole, textAfter, Filled}
+use Rattle.reading.specs.Answers.{numberOf, placeOf, told, refusal, roomFor, fits, readText, readingOf, laidWhole, textAfter, Filled}
 use Rattle.tables.specs.Lent.{Lent, lent}
 use Rattle.reading.specs.Lent.{roomIn, readInto, left}
 
@@ -35,7 +40,9 @@ refusal-number Refusal.BadBegin = refl
 refusal-number Refusal.TooDeep = refl
 refusal-number Refusal.BadEnd = refl
 refusal-number Refusal.Outside = refl
-refusal-number (Refusal.Line BadLine) = refl
+refusal-number (Refusal.Line ReservedKey) = refl
+refusal-number (Refusal.Line EmptyKey) = refl
+refusal-number (Refusal.Line (StrayByte at)) = refl
 refusal-number Refusal.Unclosed = refl
 refusal-number Refusal.NoComponent = refl
 
@@ -104,9 +111,50 @@ module _ (text c p q : List ℕ) (counts : Counts) (e : outcomeOf text ≡ Read 
         parameters = filled parameter-shape (s .parameters) (counts .parameters) q q′ (ap (λ (k : Counts). k .parameters) n) fq (t .parameters) ∙ rw (w .run);
       }
 
-pub refused-text : (text : List ℕ) (room : Counts) (r : Refusal) (place : ℕ) → outcomeOf text ≡ Refused r place
-    → readText text room ≡ refusal (numberOf r) place (length text)
-refused-text text room r place e = rw e
+pub refused-text : (text : List ℕ) (room : Counts) (r : Refusal) (from : ℕ) → outcomeOf text ≡ Refused r from
+    → readText text room ≡ refusal (numberOf r) (placeOf r from) (length text)
+refused-text text room r from e = rw e
+
+-- ---- the place of a refusal
+
+-- a line is refused within the text
+line-place : (text : List ℕ) (r : Refusal) (start : ℕ) → RefusedAt text r start → placeOf r start ≤ length text
+line-place text Refusal.BadBegin start w = omega (arith, w .inside)
+line-place text Refusal.TooDeep start w = omega (arith, w .inside)
+line-place text Refusal.BadEnd start w = omega (arith, w .inside)
+line-place text Refusal.Outside start w = omega (arith, w .inside)
+line-place text (Refusal.Line ReservedKey) start w = omega (arith, w .inside)
+line-place text (Refusal.Line EmptyKey) start w = omega (arith, w .inside)
+line-place text (Refusal.Line (StrayByte at)) start w =
+    let bad = fault-of text (w .line) (lineOf (w .line)) (w .opens) (StrayByte at) (w .refused) in
+    let stray : at < length (w .line) = subst (Sound (w .line)) bad (sound (w .line)) in
+    omega (arith, w .inside)
+line-place text Refusal.Unclosed start w = omega (arith, w .inside)
+line-place text Refusal.NoComponent start w = omega (arith, w .inside)
+
+-- what is refused at the end of a text has its length for a place
+end-place : (depth : ℕ) (n : Counts) (size : ℕ) (r : Refusal) (from : ℕ) → endedAt depth n size ≡ Refused r from → placeOf r from ≡ size
+end-place depth n size r from e = go (eqb depth 0) (eqb (n .components) 0) e
+  where
+    here : {x : Refusal} → placeOf x size ≡ size → Refused x size ≡ Refused r from → placeOf r from ≡ size
+    here {x} p e = let same : x ≡ r = cc in let there : size ≡ from = cc in rw (← same, ← there) p
+
+    go : (t u : Bool) → pick t (pick u (Refused Refusal.NoComponent size) (Read n)) (Refused Refusal.Unclosed size) ≡ Refused r from → placeOf r from ≡ size
+    go true true e = here refl e
+    go true false e = cc
+    go false u e = here refl e
+
+-- so every place is within the text
+pub place-inside : (text : List ℕ) (r : Refusal) (from : ℕ) → outcomeOf text ≡ Refused r from → placeOf r from ≤ length text
+unfolding outcomeOf
+place-inside text r from e = go (runOf text) refl e
+  where
+    go : (w : Run) → runOf text ≡ w → judged w (length text) ≡ Refused r from → placeOf r from ≤ length text
+    go (finished s) f e = omega (arith, end-place (length (s .opens)) (countsOf s) (length text) r from e)
+    go (stopped x start) f e =
+        let same : x ≡ r = cc in
+        let there : start ≡ from = cc in
+        line-place text r from (refused-line text r from (rw (same, there) at f))
 
 -- ---- the text
 

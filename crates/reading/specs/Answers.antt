@@ -1,6 +1,7 @@
--- The six numbers of a reading, and what it leaves in the text and in the tables (document 01, "What each number returns and leaves").
+-- The six numbers of a reading, and what it leaves in the text and in the tables (document 01, "What each number returns and leaves";
+-- document 02, request 2).
 -- Assumes nothing.
-use Prim.Native.Nat.{ℕ, _/_}
+use Prim.Native.Nat.{ℕ, _+_, _/_}
 use mathlib.Core.Path.{_≡_}
 use mathlib.Core.Bool.{Bool, _&&_}
 use mathlib.Core.List.{List}
@@ -8,10 +9,10 @@ use lib.ListN.{length}
 use lib.Dec.{eqb, leb}
 use Rattle.octets.specs.Choice.{pick}
 use Rattle.octets.specs.Laid.{laid}
-use Rattle.octets.specs.Answers.{longest, done, tooLong, noTextRoom, badBegin, tooDeep, badEnd, outside, badLine, unclosed, noComponent, noRoom}
+use Rattle.octets.specs.Answers.{longest, done, tooLong, noTextRoom, badBegin, tooDeep, badEnd, outside, emptyKey, unclosed, noComponent, noRoom, reservedKey, strayByte}
 use Rattle.unfolding.specs.Unfold.{unfolded}
 use Rattle.lines.specs.declared.Fault.{Fault}
-use Rattle.lines.specs.declared.Fault.the-variants.{BadLine}
+use Rattle.lines.specs.declared.Fault.the-variants.{ReservedKey, EmptyKey, StrayByte}
 use Rattle.tables.specs.Rows.{flat, componentSize, propertySize, parameterSize, componentWords, propertyWords, parameterWords}
 use Rattle.nesting.specs.Steps.{State, nothing, Run, finished, stopped, runOf, outcomeOf}
 use Rattle.nesting.specs.declared.Counts.{Counts}
@@ -22,7 +23,9 @@ use Rattle.reading.specs.declared.Reading.{Reading}
 
 -- this paper's number for each refusal
 abbrev pub faultNumber : Fault → ℕ
-faultNumber BadLine = badLine
+faultNumber ReservedKey = reservedKey
+faultNumber EmptyKey = emptyKey
+faultNumber (StrayByte at) = strayByte
 
 abbrev pub numberOf : Refusal → ℕ
 numberOf Refusal.BadBegin = badBegin
@@ -32,6 +35,21 @@ numberOf Refusal.Outside = outside
 numberOf (Refusal.Line fault) = faultNumber fault
 numberOf Refusal.Unclosed = unclosed
 numberOf Refusal.NoComponent = noComponent
+
+-- and its place, where it was met at `from`: the start of its line, or the end of the text; a stray byte has its own (document 02, request 2)
+abbrev pub faultPlace : Fault → ℕ → ℕ
+faultPlace ReservedKey start = start
+faultPlace EmptyKey start = start
+faultPlace (StrayByte at) start = start + at
+
+abbrev pub placeOf : Refusal → ℕ → ℕ
+placeOf Refusal.BadBegin from = from
+placeOf Refusal.TooDeep from = from
+placeOf Refusal.BadEnd from = from
+placeOf Refusal.Outside from = from
+placeOf (Refusal.Line fault) from = faultPlace fault from
+placeOf Refusal.Unclosed from = from
+placeOf Refusal.NoComponent from = from
 
 -- answer, place, text length, and the three counts
 abbrev pub told : ℕ → ℕ → ℕ → Counts → Reading
@@ -63,7 +81,7 @@ fits counts room =
 
 -- what the text alone answers, and then whether the tables have room
 abbrev pub answered : Outcome → ℕ → Counts → Reading
-answered (Refused r place) size room = refusal (numberOf r) place size
+answered (Refused r from) size room = refusal (numberOf r) (placeOf r from) size
 answered (Read counts) size room = told (pick (fits counts room) done noRoom) 0 size counts
 
 abbrev pub readText : List ℕ → Counts → Reading

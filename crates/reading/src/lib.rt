@@ -4,7 +4,7 @@ ghost use Prim.Native.Nat.{_≤_};
 ghost use lib.ListN.{length};
 ghost use Rattle.octets.specs.Answers.{longest};
 ghost use Rattle.unfolding.specs.Unfold.{unfolded};
-ghost use Rattle.reading.specs.Answers.{laidWhole, readText, Filled, numberOf, faultNumber, refusal, told, fits, roomFor};
+ghost use Rattle.reading.specs.Answers.{laidWhole, readText, Filled, numberOf, faultNumber, placeOf, faultPlace, refusal, told, fits, roomFor};
 ghost use Rattle.tables.specs.Lent.{lent};
 ghost use Rattle.reading.specs.Lent.{readInto, left};
 use lines::Fault;
@@ -26,7 +26,21 @@ fn fault_number(fault: Fault) -> u32
     ensures { λ n. ⌜ n ≡ faultNumber fault ⌝ }
 {
     match fault {
-        Fault::BadLine => octets::BAD_LINE,
+        Fault::ReservedKey => octets::RESERVED_KEY,
+        Fault::EmptyKey => octets::EMPTY_KEY,
+        Fault::StrayByte(_) => octets::STRAY_BYTE,
+    }
+}
+
+// The place of a fault in a line that starts at `start`.
+fn fault_place(fault: Fault, start: usize) -> usize
+    requires { ⌜ faultPlace fault start ≤ longest ⌝ }
+    ensures { λ n. ⌜ n ≡ faultPlace fault start ⌝ }
+{
+    match fault {
+        Fault::ReservedKey => start,
+        Fault::EmptyKey => start,
+        Fault::StrayByte(at) => start + at,
     }
 }
 
@@ -41,6 +55,22 @@ fn number_of(r: Refusal) -> u32
         Refusal::Line(fault) => fault_number(fault),
         Refusal::Unclosed => octets::UNCLOSED,
         Refusal::NoComponent => octets::NO_COMPONENT,
+    }
+}
+
+// The place of a refusal that was met at `from`: the start of a line, or the end of the text.
+fn place_of(r: Refusal, from: usize) -> usize
+    requires { ⌜ placeOf r from ≤ longest ⌝ }
+    ensures { λ n. ⌜ n ≡ placeOf r from ⌝ }
+{
+    match r {
+        Refusal::BadBegin => from,
+        Refusal::TooDeep => from,
+        Refusal::BadEnd => from,
+        Refusal::Outside => from,
+        Refusal::Line(fault) => fault_place(fault, from),
+        Refusal::Unclosed => from,
+        Refusal::NoComponent => from,
     }
 }
 
@@ -105,7 +135,7 @@ fn read_text(
     let size = text.len();
     let outcome = nesting::count(text);
     match outcome {
-        Outcome::Refused(r, place) => refuse(number_of(r), place, size),
+        Outcome::Refused(r, from) => refuse(number_of(r), place_of(r, from), size),
         Outcome::Read(counts) => {
             if !have_room(counts, components, properties, parameters) {
                 return tell(octets::NO_ROOM, 0, size, counts);

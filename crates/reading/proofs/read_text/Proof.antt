@@ -1,22 +1,36 @@
 -- `reading::read_text`: the rows are counted first, and put only where there is room for all of them.
 -- Assumes nothing.
-use mathlib.Core.Path.{refl, sym, ap, _∙_}
+use mathlib.Core.Path.{_≡_, refl, sym, ap, _∙_}
 use mathlib.Core.Bool.{true, false}
+use mathlib.Core.List.{List}
 use Prim.Native.Nat.{ℕ}
+use native.Mathlib.Omega.{arith}
 use lib.ListN.{length}
 use lib.Dec.{eqb}
-use Rattle.reading.specs.Answers.{refusal}
 use borrow.Author.Tests.{not-true, not-false}
 use Rattle.octets.specs.Answers.{done}
+use Rattle.nesting.specs.Steps.{outcomeOf}
+use Rattle.nesting.specs.declared.Outcome.the-variants.{Refused}
+use Rattle.reading.specs.Answers.{numberOf, placeOf, refusal}
 use Rattle.reading.specs.declared.Reading.{Reading}
-use Rattle.reading.proofs.Laws.{answers, fills, refused-text, refusal-number, untouched, filled-by}
+use Rattle.reading.proofs.Laws.{answers, fills, refused-text, refusal-number, place-inside, untouched, filled-by}
 use borrow.Author.Needs.{needs}
 use Rattle.reading.proofs.read_text.Statement.{statement}
 use Rattle.reading.proofs.read_text.Tie as tie
 
 -- what the proofs look back to
-abbrev start-of-refusal : tie.After-refuse → tie.Start
-start-of-refusal c = c .before .before .before .before .before .before .before .before .before .before
+abbrev refused : tie.After-number-of → tie.After-outcome
+refused c = c .before .before
+
+abbrev start-of-refusal : tie.After-number-of → tie.Start
+start-of-refusal c = refused c .before .before .before .before .before .before .before
+
+abbrev text-of-refusal : tie.After-number-of → List ℕ
+text-of-refusal c = start-of-refusal c .args .text .now
+
+-- the text alone is refused
+refused-text-is : (c : tie.After-number-of) → outcomeOf (text-of-refusal c) ≡ Refused (refused c .outcome .given .0 .0) (refused c .outcome .given .0 .1 .0)
+refused-text-is c = sym (refused c .before .before .count .ensures) ∙ refused c .outcome .given .1
 
 abbrev at-start : tie.After-outcome2 → tie.Start
 at-start c = c .before .before .before .before .before .before .before
@@ -41,6 +55,10 @@ enum-known-outcome c = search needs
 
 number-of-requires : tie.Need-number-of-requires
 number-of-requires c κs = search needs
+
+place-of-requires : tie.Need-place-of-requires
+place-of-requires c κs =
+    omega (arith, start-of-refusal c .pre, place-inside (text-of-refusal c) (refused c .outcome .given .0 .0) (refused c .outcome .given .0 .1 .0) (refused-text-is c))
 
 refuse-requires : tie.Need-refuse-requires
 refuse-requires c κs = search needs
@@ -78,13 +96,14 @@ tell-requires-2 c κs = search needs
 
 returns-2 : tie.Need-returns-2
 returns-2 c =
-    let o = c .before .before .before in
-    let a = start-of-refusal c .args in
-    let e = sym (o .before .before .count .ensures) ∙ o .outcome .given .1 in
-    let n = c .refuse .ensures ∙ ap (λ (k : ℕ). refusal k (o .outcome .given .0 .1 .0) (length (a .text .now))) (c .before .number-of .ensures) in
+    let o = c .before .before in
+    let a = start-of-refusal o .args in
+    let r = refused o .outcome .given .0 .0 in
+    let told : c .refuse .result ≡ refusal (numberOf r) (placeOf r (refused o .outcome .given .0 .1 .0)) (length (a .text .now)) =
+    rw (← o .number-of .ensures, ← c .before .place-of .ensures) (c .refuse .ensures) in
     let w = untouched (a .text .now) (c .refuse .result) (a .components .now) (a .properties .now) (a .parameters .now)
-    (ap (λ (r : Reading). eqb (r .answer) done) n ∙ refusal-number (o .outcome .given .0 .0)) in
-    (n ∙ sym (refused-text (a .text .now) _ _ _ e), w)
+    (ap (λ (r : Reading). eqb (r .answer) done) told ∙ refusal-number r) in
+    (told ∙ sym (refused-text (a .text .now) _ _ _ (refused-text-is o)), w)
 
 same-length-4 : tie.Need-same-length-4
 same-length-4 c = search needs
@@ -109,6 +128,7 @@ read-text-spec =
     count-requires
     enum-known-outcome
     number-of-requires
+    place-of-requires
     refuse-requires
     enum-known-outcome-2
     have-room-requires
