@@ -10,17 +10,19 @@ function table() {
     refusal(4, "TooDeep", "components nest at most 64 deep", "line open")
     refusal(5, "BadEnd", "nothing is open, or the open component has another name", "line open name")
     refusal(6, "Outside", "the line stands in no component", "line mark")
-    refusal(7, "BadLine", "the line is no property, which is a key, parameters behind semicolons, a colon and a value", "line property")
+    refusal(7, "EmptyKey", "the line has no key: it begins with a byte that no key has", "line property")
     refusal(8, "Unclosed", "the feed ends in an open component", "open")
     refusal(9, "NoComponent", "the feed is empty, or has empty lines alone", "")
     refusal(10, "NoRoom", "there is room for 128 components, 512 properties and 512 parameters, and the feed has " number[4] ", " number[5] " and " number[6], "")
+    refusal(17, "ReservedKey", "BEGIN and END are no keys, and begin or end a component only with a colon behind them", "line")
+    refusal(18, "StrayByte", "behind the key and its parameters a colon, a semicolon or the end of the line is due, and another byte stands there", "line property")
 }
 
 function refusal(n, name, words, also) { meaning[n] = name ": " words; more[n] = also }
 
 function say(words) { print "lister: " words }
 
-BEGIN { feed_size = text_size = depth = bad = 0 }
+BEGIN { feed_size = text_size = depth = 0 }
 
 { for (i = 1; i <= NF; i++) feed[feed_size++] = $i + 0 }
 
@@ -32,8 +34,7 @@ END {
     alphabet()
     unfold()
     find_line(number[2] + 0)
-    if (also ~ /name/) bad = name_end()
-    if (also ~ /property/) bad = property_end()
+    bad = also ~ /name/ ? name_end() : number[2] - from
     if (also ~ /line/) tell_line()
     if (also ~ /open/) tell_open()
     if (also ~ /name/) tell_name()
@@ -50,7 +51,6 @@ function alphabet(    c) {
     plain[9] = "\t"; shown[9] = "\\t"
     plain[13] = "\r"; shown[13] = "\\r"
     shown[92] = "\\\\"
-    key = "[A-Za-z0-9.,/_-]*"
 }
 
 # ---- the unfolded text and its lines
@@ -64,13 +64,14 @@ function fold(at) {
     return 0
 }
 
-# Unfolds the feed into `text`, and keeps for each byte there the line of the feed in which it stands, its `row`.
-function unfold(    at, r, skip) {
+# Unfolds the feed into `text`, and keeps for each byte there the line of the feed in which it stands, its `row`, and which byte of that it is.
+function unfold(    at, r, skip, start) {
     r = 1
+    start = 0
     for (at = 0; at < feed_size; at += skip ? skip : 1) {
         skip = fold(at)
-        if (!skip) { text[text_size] = feed[at]; row[text_size++] = r }
-        if (skip || feed[at] == 10) r++
+        if (!skip) { text[text_size] = feed[at]; column[text_size] = at - start + 1; row[text_size++] = r }
+        if (skip || feed[at] == 10) { r++; start = at + (skip ? skip - 1 : 1) }
     }
 }
 
@@ -117,30 +118,11 @@ function width(wanted,    at, r, n) {
     return n
 }
 
-# ---- how far a line is sound; the program alone decides whether it is, and this finds the byte to look at
-
 # The end of the name in a BEGIN or END line.
 function name_end(    colon) {
     colon = index(line, ":")
-    match(substr(line, colon + 1), "^" key)
+    match(substr(line, colon + 1), /^[A-Za-z0-9.,\/_-]*/)
     return colon + RLENGTH
-}
-
-function reserved() { return toupper(line) ~ /^(BEGIN|END)(;|$)/ }
-
-# The end of the key and the parameters of a property, behind which `:` or the end of the line is due.
-function property_end(    at, rest, n) {
-    if (reserved()) return 0
-    match(line, "^" key)
-    for (at = RLENGTH; at > 0 && substr(line, at + 1, 1) == ";"; at += n) {
-        rest = substr(line, at + 1)
-        match(rest, "^;[ \t]*" key)
-        n = RLENGTH
-        if (substr(rest, n + 1, 1) != "=") continue
-        rest = substr(rest, ++n + 1)
-        if (match(rest, /^"[^"]+"(,"[^"]+")*/) || match(rest, /^[^;:]+/)) n += RLENGTH
-    }
-    return at
 }
 
 # ---- what is told
@@ -155,10 +137,16 @@ function tell_open() {
     else say("the open component is " visible(name_from[depth], name_to[depth], 0) ", begun in line " opened[depth] " of the feed")
 }
 
-# The first byte of the line that is not sound; where a fold stands before it, its line of the feed too.
-function tell_byte(words,    at) {
+# The byte that is wrong; where a fold stands before it, its place in the feed too.
+function tell_byte(what,    at) {
     at = from + bad
-    say("the first byte that " words " is byte " bad + 1 " of the line" (row[at] > begins ? ", in line " row[at] " of the feed" : "") ": " visible(at, at + 1, at))
+    say(what " is byte " bad + 1 " of the line" (row[at] > begins ? ", which is byte " column[at] " of line " row[at] " of the feed" : "") ": " visible(at, at + 1, at))
+}
+
+# What is wrong with a CR in front of the rest of a line: it belongs to no break. Empty where none stands there.
+function lone_cr(rest) {
+    if (rest !~ /^\r/) return ""
+    return (rest == "\r" && to == text_size ? "the feed ends with " : "") "CR without LF; such a CR does not end the line, and is taken for a byte of it"
 }
 
 # Whether the name in an END line is the open one.
@@ -168,10 +156,10 @@ function closes() { return depth > 0 && substr(line, 5, bad - 4) == string(name_
 function tell_name(    rest) {
     rest = substr(line, bad + 1)
     if (rest == "" || (also ~ /open/ && !closes())) return
-    tell_byte("no name has")
+    tell_byte("the first byte that no name has")
     if (rest ~ /^[ \t]+\r*$/) say("cause: a blank stands behind the name")
-    if (rest ~ /^[ \t]*\r$/ && to == text_size) say("cause: the feed ends with CR without LF; this CR ends no line, and is taken for a byte of the name")
-    else if (rest ~ /^[ \t]*\r/) say("cause: CR without LF; such a CR ends no line, and is taken for a byte of the name")
+    sub(/^[ \t]+/, "", rest)
+    if (lone_cr(rest)) say("cause: " lone_cr(rest))
 }
 
 # Of a line in no component: a byte order mark in front of it.
@@ -182,15 +170,15 @@ function tell_mark() {
         say("cause: the feed is UTF-16, as the byte order mark in front of the line shows; save it as UTF-8")
 }
 
-# Of a line that is no property. Behind a full line it may be the rest of that one, even if it looks like a key and `=`.
-function tell_property(    before, full, equals) {
-    if (reserved()) { say("BEGIN and END are no keys, and begin or end a component only with a colon behind them"); return }
-    tell_byte("fits no property")
+# Of a line without a key or with a stray byte. Behind a full line it may be the rest of that one, even if it looks like a key and `=`.
+function tell_property(    rest, cause, before, full) {
+    tell_byte(bad ? "the stray byte" : "the byte that no key has")
+    rest = substr(line, bad + 1)
+    cause = bad && rest ~ /^=/ ? "= stands where the colon is due" : lone_cr(rest)
+    if (cause) say("cause: " cause)
     before = begins - 1
     full = width(before) >= 70
-    equals = bad > 0 && text[from + bad] == 61
-    if (equals) say("cause: = stands where the colon is due")
-    if (after_property && (full || !equals))
+    if (after_property && (full || !cause))
         say((full ? "cause, it seems: " : "perhaps: ") "a fold that lost its blank; line " before " has " width(before) " bytes, " \
             "and its rest in line " begins " would have to begin with a space or tab")
 }
