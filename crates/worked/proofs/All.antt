@@ -82,7 +82,7 @@ unfolding bytes comesTrue wrong rising turning unfoldedAfter sameBytes startsWor
     linesAfter lineOf flat steps.readLines steps.outcomeOf readingOf textAfter
 just-enough = refl
 
--- ---- readings that are refused for a line (3 to 7) or at the end of the text (8, 9). The text is in front, and the tables stay
+-- ---- readings that are refused for a line (3 to 7, 17, 18) or at the end of the text (8, 9). The text is in front, and the tables stay
 
 pub bad-begin : wrong reading-refused.badBeginCases ≡ []
 unfolding bytes comesTrue wrong rising turning unfoldedAfter sameBytes startsWord run quotedLen furtherAfter formOf paramOf frontOf paramsAfter paramsUsed
@@ -104,10 +104,20 @@ unfolding bytes comesTrue wrong rising turning unfoldedAfter sameBytes startsWor
     linesAfter lineOf flat steps.readLines steps.outcomeOf readingOf textAfter
 outside = refl
 
-pub bad-line : wrong reading-refused.badLineCases ≡ []
+pub reserved-key : wrong reading-refused.reservedKeyCases ≡ []
 unfolding bytes comesTrue wrong rising turning unfoldedAfter sameBytes startsWord run quotedLen furtherAfter formOf paramOf frontOf paramsAfter paramsUsed
     linesAfter lineOf flat steps.readLines steps.outcomeOf readingOf textAfter
-bad-line = refl
+reserved-key = refl
+
+pub empty-key : wrong reading-refused.emptyKeyCases ≡ []
+unfolding bytes comesTrue wrong rising turning unfoldedAfter sameBytes startsWord run quotedLen furtherAfter formOf paramOf frontOf paramsAfter paramsUsed
+    linesAfter lineOf flat steps.readLines steps.outcomeOf readingOf textAfter
+empty-key = refl
+
+pub stray-byte : wrong reading-refused.strayByteCases ≡ []
+unfolding bytes comesTrue wrong rising turning unfoldedAfter sameBytes startsWord run quotedLen furtherAfter formOf paramOf frontOf paramsAfter paramsUsed
+    linesAfter lineOf flat steps.readLines steps.outcomeOf readingOf textAfter
+stray-byte = refl
 
 pub unclosed : wrong reading-refused.unclosedCases ≡ []
 unfolding bytes comesTrue wrong rising turning unfoldedAfter sameBytes startsWord run quotedLen furtherAfter formOf paramOf frontOf paramsAfter paramsUsed
