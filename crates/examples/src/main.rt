@@ -1,4 +1,4 @@
-// Runs the examples of document 01 that are run and not proved, and prints what came out.
+// Runs the examples of documents 01 and 02 that are run and not proved, and prints what came out.
 use trial::say;
 use trial::say_number;
 
@@ -20,15 +20,26 @@ fn fold_75() {
     say(b"|\n");
 }
 
+fn list(feed: &[u8]) {
+    let mut out = [0u8; 256];
+    let n = listing::list_feed(feed, &mut out);
+    say(octets::view(&out, 0, n));
+}
+
 // The input that document 01 gives for the lister, with the listing that it gives for it.
 fn list_example() {
-    let mut out = [0u8; 256];
-    let n = listing::list_feed(
-        b"BEGIN:VEVENT\r\nUID:7\r\nATTENDEE;CN=\"A:B\";RSVP:mailto:x\r\nEND:VEVENT\r\n",
-        &mut out,
-    );
     say(b"the listing:\n");
-    say(octets::view(&out, 0, n));
+    list(b"BEGIN:VEVENT\r\nUID:7\r\nATTENDEE;CN=\"A:B\";RSVP:mailto:x\r\nEND:VEVENT\r\n");
+}
+
+// "Split BadLine into an empty key, a reserved key, and a stray byte after key or parameters."
+fn list_refused() {
+    say(b"an empty key: ");
+    list(b"BEGIN:A\n:v\nEND:A\n");
+    say(b"a reserved key: ");
+    list(b"BEGIN:A\nend\nEND:A\n");
+    say(b"a stray byte: ");
+    list(b"BEGIN:A\nK;A=\"a\"b:v\nEND:A\n");
 }
 
 fn main() {
@@ -46,4 +57,5 @@ fn main() {
     say(b"1048577 bytes:");
     trial::read_long(1048577, &mut feed, &mut text);
     list_example();
+    list_refused();
 }

@@ -54,6 +54,23 @@ fn read_with_rows(
     say_reading(reading::read_components(feed, text, components, properties, parameters));
 }
 
+// The last byte that is read stands behind a key that fills the feed, and is stray.
+fn longest_key(feed: &mut [u8; trial::OVER], text: &mut [u8; trial::OVER]) {
+    octets::put(b"BEGIN:A\n", feed);
+    octets::lay(b"!", feed, octets::LONGEST - 1);
+    let mut components = [0u32; 4];
+    let mut properties = [0u32; 5];
+    let mut parameters = [0u32; 0];
+    say(b"a stray byte at the end of 1048576 bytes:");
+    read_with_rows(
+        octets::view(feed, 0, octets::LONGEST),
+        text,
+        &mut components,
+        &mut properties,
+        &mut parameters,
+    );
+}
+
 // Two components, two properties, two parameters, and 49 bytes of unfolded text.
 fn read_small(
     text: &mut [u8],
@@ -236,9 +253,10 @@ fn main() {
     trial::read_long(1048576, &mut feed, &mut text);
     say(b"feed of 1048577 bytes:");
     trial::read_long(1048577, &mut feed, &mut text);
-    let line = [b'a'; trial::OVER];
+    let mut line = [b'a'; trial::OVER];
     longest_values(&line, &mut text);
     longest_texts(&line, &mut text);
+    longest_key(&mut line, &mut text);
     let commas = [b','; COMMAS];
     longest_outputs(&commas, &mut text);
     say(b"depth 64:");
