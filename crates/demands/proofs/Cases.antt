@@ -16,7 +16,7 @@ use Rattle.nesting.specs.declared.Entry.{Entry}
 use Rattle.nesting.specs.declared.Refusal.{Refusal}
 use Rattle.nesting.specs.declared.Outcome.{Outcome}
 use Rattle.nesting.specs.declared.Outcome.the-variants.{Read, Refused}
-use Rattle.reading.specs.Answers.{numberOf, told, refusal, fits, answered, readText, readingOf}
+use Rattle.reading.specs.Answers.{numberOf, placeOf, told, refusal, fits, answered, readText, readingOf}
 use Rattle.reading.specs.declared.Reading.{Reading}
 use Rattle.demands.specs.Readable.{Readable}
 use Rattle.demands.specs.Room.{AtMost, Exceeds}
@@ -93,8 +93,8 @@ pub data Answered (feed : List ℕ) (textRoom : ℕ) (room : Counts) : Reading �
   no-text-room : length feed ≤ longest → textRoom < length (unfolded feed)
       → Answered feed textRoom room (refusal noTextRoom 0 (length (unfolded feed)))
   not-readable : length feed ≤ longest → length (unfolded feed) ≤ textRoom
-      → (r : Refusal) (place : ℕ) → outcomeOf (unfolded feed) ≡ Refused r place
-      → Answered feed textRoom room (refusal (numberOf r) place (length (unfolded feed)))
+      → (r : Refusal) (from : ℕ) → outcomeOf (unfolded feed) ≡ Refused r from
+      → Answered feed textRoom room (refusal (numberOf r) (placeOf r from) (length (unfolded feed)))
   no-room : (s : State) → Readable feed s → length (unfolded feed) ≤ textRoom → Exceeds (countsOf s) room
       → Answered feed textRoom room (told noRoom 0 (length (unfolded feed)) (countsOf s))
   all-read : (s : State) → Readable feed s → length (unfolded feed) ≤ textRoom → AtMost (countsOf s) room
@@ -113,7 +113,7 @@ module _ (feed : List ℕ) (textRoom : ℕ) (room : Counts) where
       go (Read c) e =
           let w = outcome-readable feed c h e in
           rw (w .2) (of-read (w .0) (w .1) (fits (countsOf (w .0)) room) refl)
-      go (Refused r place) e = not-readable h t r place e
+      go (Refused r from) e = not-readable h t r from e
 
   -- every reading is one of the five
   pub cases : Answered feed textRoom room (readingOf feed textRoom room)
@@ -132,6 +132,6 @@ module _ (feed : List ℕ) (textRoom : ℕ) (room : Counts) where
   unfolding readingOf
   exactly (too-long h) = rw (lt-leb _ _ h)
   exactly (no-text-room h t) = rw (le-leb _ _ h, lt-leb _ _ t)
-  exactly (not-readable h t r place e) = rw (le-leb _ _ h, le-leb _ _ t, e)
+  exactly (not-readable h t r from e) = rw (le-leb _ _ h, le-leb _ _ t, e)
   exactly (no-room s r t x) = rw (le-leb _ _ (r .short), le-leb _ _ t, readable-outcome r, too-few (countsOf s) room x)
   exactly (all-read s r t a) = rw (le-leb _ _ (r .short), le-leb _ _ t, readable-outcome r, enough (countsOf s) room a)

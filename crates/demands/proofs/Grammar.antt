@@ -10,6 +10,7 @@ use lib.ListN.{length, length-append}
 use lib.Dec.{eqb}
 use borrow.Author.Tests.{eqb-true, eqb-false, ne-eqb}
 use Rattle.octets.specs.Choice.{pick}
+use Rattle.octets.specs.Answers.{noTextRoom, noRoom}
 use Rattle.unfolding.specs.Unfold.{unfolded}
 use Rattle.lines.specs.Split.{Placed, linesFrom}
 use Rattle.lines.specs.Rule.{lineOf}
@@ -21,7 +22,7 @@ use Rattle.nesting.specs.declared.Entry.{Entry}
 use Rattle.nesting.specs.declared.Outcome.the-variants.{Read, Refused}
 use Rattle.nesting.specs.declared.Refusal.{Refusal}
 use Rattle.tables.specs.Lent.{Lent}
-use Rattle.reading.specs.Answers.{numberOf, refusal}
+use Rattle.reading.specs.Answers.{numberOf, placeOf, refusal}
 use Rattle.reading.specs.Lent.{roomIn, readInto}
 use Rattle.reading.specs.declared.Reading.{Reading}
 use Rattle.demands.specs.Readable.{Readable}
@@ -150,33 +151,33 @@ module _ (text : List ℕ) where
           let same : y ≡ x = cc in
           record { before = []; here = l; behind = ls; last = s; is = refl; reads = refl; refused = c ∙ ap Check.Bad same; at = cc }
 
-  stopped-broken : (x : Refusal) (place : ℕ) → runOf text ≡ stopped x place → Broken text (numberOf x) place
-  stopped-broken x place e =
-      let w = stops lines nothing x place e in
+  stopped-broken : (x : Refusal) (from : ℕ) → runOf text ≡ stopped x from → Broken text (numberOf x) (placeOf x from)
+  stopped-broken x from e =
+      let w = stops lines nothing x from e in
       let before-in = all-front (In text) (w .before) (w .here ∷ w .behind) (subst (All (In text)) (w .is) all-in) in
-      subst (Broken text (numberOf x)) (w .at)
+      subst (λ (at : ℕ). Broken text (numberOf x) (placeOf x at)) (w .at)
       (at-line (w .behind) (subst (Lines 0 text) (w .is) lines-split) (begun-from (w .before) before-in (w .last) (w .reads))
-      (refuses text (w .here .content) (w .last .opens) x (w .refused)))
+      (refuses text (w .here .start) (w .here .content) (w .last .opens) x (w .refused)))
 
   -- ---- what is refused at the end
 
   -- nothing, an Unclosed or a NoComponent by what is open and what there is
-  ended-broken : (s : State) → runOf text ≡ finished s → (x : Refusal) (place : ℕ) → endedAt (length (s .opens)) (countsOf s) (length text) ≡ Refused x place
-      → Broken text (numberOf x) place
-  ended-broken s e x place o = go (eqb (length (s .opens)) 0) (eqb (length (s .components)) 0) refl refl o
+  ended-broken : (s : State) → runOf text ≡ finished s → (x : Refusal) (from : ℕ) → endedAt (length (s .opens)) (countsOf s) (length text) ≡ Refused x from
+      → Broken text (numberOf x) (placeOf x from)
+  ended-broken s e x from o = go (eqb (length (s .opens)) 0) (eqb (length (s .components)) 0) refl refl o
     where
       b : Begun 0 noRow [] noRows lines (length (s .opens)) (innermost text (s .opens)) (rows s)
       b = begun-from lines all-in s e
 
-      told : {y : Refusal} → Refused y (length text) ≡ Refused x place → Broken text (numberOf y) (length text) → Broken text (numberOf x) place
+      told : {y : Refusal} → Refused y (length text) ≡ Refused x from → Broken text (numberOf y) (placeOf y (length text)) → Broken text (numberOf x) (placeOf x from)
       told {y} q w =
           let same : y ≡ x = cc in
-          let there : length text ≡ place = cc in
-          subst (Broken text (numberOf x)) there (subst (λ (z : Refusal). Broken text (numberOf z) (length text)) same w)
+          let there : length text ≡ from = cc in
+          subst (λ (at : ℕ). Broken text (numberOf x) (placeOf x at)) there (subst (λ (z : Refusal). Broken text (numberOf z) (placeOf z (length text))) same w)
 
       go : (t u : Bool) → eqb (length (s .opens)) 0 ≡ t → eqb (length (s .components)) 0 ≡ u
-          → pick t (pick u (Refused Refusal.NoComponent (length text)) (Read (countsOf s))) (Refused Refusal.Unclosed (length text)) ≡ Refused x place
-          → Broken text (numberOf x) place
+          → pick t (pick u (Refused Refusal.NoComponent (length text)) (Read (countsOf s))) (Refused Refusal.Unclosed (length text)) ≡ Refused x from
+          → Broken text (numberOf x) (placeOf x from)
       go true true p q o =
           let body = begun-body b (eqb-true (length (s .opens)) 0 p) in
           told o (no-component lines-split (body-blank body refl (omega (arith, eqb-true (length (s .components)) 0 q))))
@@ -201,38 +202,51 @@ module _ (text : List ℕ) where
       → Leaves text ls nothing depth name r
   leaves i b = begun-reads text b [] refl refl refl i
 
-  broken-refused : {number place : ℕ} → Broken text number place → (x : Refusal) × (outcomeOf text ≡ Refused x place) × (numberOf x ≡ number)
+  -- it is refused with this number and place
+  record RefusedAs (number place : ℕ) : Type 0 where
+    refusal-is : Refusal
+    from : ℕ
+    outcome : outcomeOf text ≡ Refused refusal-is from
+    number-is : numberOf refusal-is ≡ number
+    place-is : placeOf refusal-is from ≡ place
+
+  broken-refused : {number place : ℕ} → Broken text number place → RefusedAs number place
   unfolding readLines
   broken-refused (at-line {at = at} {content = content} {before = before} behind l b w) =
       let left = leaves (all-front (In text) before (line at content ∷ behind) (split-in l)) b in
-      let x = refused-by text content w (left .opens) (left .many) (left .named) in (
-        x .0,
-        outcome-is {r = stopped (x .0) at} (run-split l ∙ left .reads (line at content ∷ behind) ∙ rw (x .1)),
-        x .2,
-      )
+      let x = refused-by text at content w (left .opens) (left .many) (left .named) in
+      record {
+        refusal-is = x .0;
+        from = at;
+        outcome = outcome-is {r = stopped (x .0) at} (run-split l ∙ left .reads (line at content ∷ behind) ∙ rw (x .1));
+        number-is = x .2;
+        place-is = x .3;
+      }
   broken-refused (unclosed {ls = ls} l b some) =
-      let left = leaves (split-in l) b in (
-        Refusal.Unclosed,
-        outcome-is (run-split l ∙ ap (λ (ls : List Placed). readLines text ls nothing) (sym (append-nil ls)) ∙ left .reads [])
-            ∙ rw (ne-eqb (length (left .opens)) 0 (λ z. omega (arith, left .many))),
-        refl,
-      )
-  broken-refused (no-component {ls = ls} l b) = (Refusal.NoComponent, outcome-is (run-split l ∙ blank-reads ls nothing b), refl)
+      let left = leaves (split-in l) b in
+      record {
+        refusal-is = Refusal.Unclosed;
+        from = length text;
+        outcome =
+            outcome-is (run-split l ∙ ap (λ (ls : List Placed). readLines text ls nothing) (sym (append-nil ls)) ∙ left .reads [])
+            ∙ rw (ne-eqb (length (left .opens)) 0 (λ z. omega (arith, left .many)));
+        number-is = refl;
+        place-is = refl;
+      }
+  broken-refused (no-component {ls = ls} l b) =
+      record { refusal-is = Refusal.NoComponent; from = length text; outcome = outcome-is (run-split l ∙ blank-reads ls nothing b); number-is = refl; place-is = refl }
 
-  -- a text is refused with a number and a place exactly where it is broken so by the grammar
-  pub refused-broken : (number place : ℕ) → ((x : Refusal) × (outcomeOf text ≡ Refused x place) × (numberOf x ≡ number)) ↔ Broken text number place
-  refused-broken number place = (λ w. subst (λ (n : ℕ). Broken text n place) (w .2) (to (w .0) (w .1)), broken-refused)
+  -- and a text that is refused is broken so by the grammar
+  pub refused-broken : (x : Refusal) (from : ℕ) → outcomeOf text ≡ Refused x from → Broken text (numberOf x) (placeOf x from)
+  refused-broken x from o = go (runOf text) refl
     where
-      to : (x : Refusal) → outcomeOf text ≡ Refused x place → Broken text (numberOf x) place
-      to x o = go (runOf text) refl
-        where
-          go : (r : Run) → runOf text ≡ r → Broken text (numberOf x) place
-          go (finished s) e = ended-broken s e x place (sym (outcome-is e) ∙ o)
-          go (stopped y at) e =
-              let q : Refused y at ≡ Refused x place = sym (outcome-is e) ∙ o in
-              let same : y ≡ x = cc in
-              let there : at ≡ place = cc in
-              stopped-broken x place (rw (same, there) at e)
+      go : (r : Run) → runOf text ≡ r → Broken text (numberOf x) (placeOf x from)
+      go (finished s) e = ended-broken s e x from (sym (outcome-is e) ∙ o)
+      go (stopped y at) e =
+          let q : Refused y at ≡ Refused x from = sym (outcome-is e) ∙ o in
+          let same : y ≡ x = cc in
+          let there : at ≡ from = cc in
+          stopped-broken x from (rw (same, there) at e)
 
 -- a feed is readable exactly where it is within the byte limit and its unfolded text is a calendar, with the same rows
 pub readable-calendar : (feed : List ℕ) (s : State) → Readable feed s ↔ ((length feed ≤ 1048576) × Calendar (unfolded feed) (rows s) × (s .opens ≡ []))
@@ -250,18 +264,18 @@ readable-calendar feed s = (
 -- where the feed is within the byte limit and its unfolded text has room, a text that is broken is answered with its number and place
 pub broken-answered : (feed : List ℕ) (b : Lent) {number place : ℕ} → length feed ≤ 1048576 → length (unfolded feed) ≤ length (b .text)
     → Broken (unfolded feed) number place → readInto feed b ≡ refusal number place (length (unfolded feed))
-broken-answered feed b {number} {place} h t w =
-    let x = refused-broken (unfolded feed) number place .1 w in
-    rw (x .2) at (exactly feed (length (b .text)) (roomIn b) (not-readable h t (x .0) place (x .1)))
+broken-answered feed b h t w =
+    let x = broken-refused (unfolded feed) w in
+    rw (x .number-is, x .place-is) at (exactly feed (length (b .text)) (roomIn b) (not-readable h t (x .refusal-is) (x .from) (x .outcome)))
 
--- and an answer from 3 to 9 is given to a broken text only, with its number and place
-pub answered-broken : (feed : List ℕ) (b : Lent) → 2 < readInto feed b .answer → readInto feed b .answer < 10
+-- and an answer from 3 on that is not 10 is given to a broken text only, with its number and place
+pub answered-broken : (feed : List ℕ) (b : Lent) → noTextRoom < readInto feed b .answer → (readInto feed b .answer ≡ noRoom → ⊥)
     → Broken (unfolded feed) (readInto feed b .answer) (readInto feed b .place)
 answered-broken feed b = go (cases feed (length (b .text)) (roomIn b))
   where
-    go : {r : Reading} → Answered feed (length (b .text)) (roomIn b) r → 2 < r .answer → r .answer < 10 → Broken (unfolded feed) (r .answer) (r .place)
+    go : {r : Reading} → Answered feed (length (b .text)) (roomIn b) r → noTextRoom < r .answer → (r .answer ≡ noRoom → ⊥) → Broken (unfolded feed) (r .answer) (r .place)
     go (too-long h) l u = absurd (omega arith)
     go (no-text-room h t) l u = absurd (omega arith)
-    go (not-readable h t x place o) l u = refused-broken (unfolded feed) (numberOf x) place .0 (x, o, refl)
-    go (no-room s r t x) l u = absurd (omega arith)
+    go (not-readable h t x from o) l u = refused-broken (unfolded feed) x from o
+    go (no-room s r t x) l u = absurd (u refl)
     go (all-read s r t a) l u = absurd (omega arith)

@@ -24,10 +24,13 @@ pub mod SaidWords
 pub mod SaidValues
 pub mod SaidParameters
 pub mod SaidLines
+pub mod SaidFronts
+pub mod SaidFaults
 pub mod SaidBreaks
 pub mod SaidNesting
 pub mod SaidRefusals
 pub mod Grammar
+pub mod Before
 pub mod Examples
 pub mod Calls
 pub mod ExportedCalls

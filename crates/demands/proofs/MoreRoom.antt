@@ -19,7 +19,7 @@ use Rattle.tables.proofs.Laws.{component-shape, property-shape, parameter-shape
 use Rattle.nesting.specs.Steps.{State, countsOf}
 use Rattle.nesting.specs.declared.Counts.{Counts}
 use Rattle.nesting.specs.declared.Refusal.{Refusal}
-use Rattle.lines.specs.declared.Fault.the-variants.{BadLine}
+use Rattle.lines.specs.declared.Fault.the-variants.{ReservedKey, EmptyKey, StrayByte}
 use Rattle.reading.specs.Answers.{numberOf, told, roomFor, readingOf, textAfter}
 use Rattle.reading.specs.declared.Reading.{Reading}
 use Rattle.demands.specs.Readable.{Readable}
@@ -32,14 +32,16 @@ use Rattle.demands.proofs.Cases.Answered.{too-long, no-text-room, not-r
 use Rattle.demands.proofs.Fronts.{untouched, same-laid, same-rows}
 
 -- a refusal of the text is none of 0, 2 and 10
-pub refusal-number : (r : Refusal) → (3 ≤ numberOf r) × (numberOf r ≤ 9)
-refusal-number Refusal.BadBegin = (omega arith, omega arith)
-refusal-number Refusal.TooDeep = (omega arith, omega arith)
-refusal-number Refusal.BadEnd = (omega arith, omega arith)
-refusal-number Refusal.Outside = (omega arith, omega arith)
-refusal-number (Refusal.Line BadLine) = (omega arith, omega arith)
-refusal-number Refusal.Unclosed = (omega arith, omega arith)
-refusal-number Refusal.NoComponent = (omega arith, omega arith)
+pub refusal-number : (r : Refusal) → (3 ≤ numberOf r) × (numberOf r ≡ noRoom → ⊥)
+refusal-number Refusal.BadBegin = (omega arith, λ z. omega arith)
+refusal-number Refusal.TooDeep = (omega arith, λ z. omega arith)
+refusal-number Refusal.BadEnd = (omega arith, λ z. omega arith)
+refusal-number Refusal.Outside = (omega arith, λ z. omega arith)
+refusal-number (Refusal.Line ReservedKey) = (omega arith, λ z. omega arith)
+refusal-number (Refusal.Line EmptyKey) = (omega arith, λ z. omega arith)
+refusal-number (Refusal.Line (StrayByte at)) = (omega arith, λ z. omega arith)
+refusal-number Refusal.Unclosed = (omega arith, λ z. omega arith)
+refusal-number Refusal.NoComponent = (omega arith, λ z. omega arith)
 
 more : {a b c : Counts} → AtMost a b → AtMost b c → AtMost a c
 more x y =
@@ -55,7 +57,7 @@ module _ (feed : List ℕ) (t t′ : ℕ) (room room′ : Counts) (text : t ≤ 
   kept : {r : Reading} → Answered feed t room r → (r .answer ≡ noTextRoom → ⊥) → (r .answer ≡ noRoom → ⊥) → Answered feed t′ room′ r
   kept (too-long h) two ten = too-long h
   kept (no-text-room h l) two ten = absurd (two refl)
-  kept (not-readable h l r place e) two ten = not-readable h (le-trans l text) r place e
+  kept (not-readable h l r from e) two ten = not-readable h (le-trans l text) r from e
   kept (no-room s r l x) two ten = absurd (ten refl)
   kept (all-read s r l a) two ten = all-read s r (le-trans l text) (more a rows)
 
@@ -77,7 +79,7 @@ module _ (feed : List ℕ) (b b′ : Lent) (roomier : Roomier b b′) where
         parameters = untouched (b .parameters) (b′ .parameters);
       })
   leaves (no-text-room h l) two ten e e′ = absurd (two refl)
-  leaves (not-readable h l r place x) two ten e e′ =
+  leaves (not-readable h l r from x) two ten e e′ =
       let l′ : length (unfolded feed) ≤ length (b′ .text) = le-trans l (roomier .text) in
       let n : eqb (numberOf r) done ≡ false = ne-eqb (numberOf r) done (λ z. omega (arith, refusal-number r)) in
       rw (le-leb _ _ h, le-leb _ _ l, le-leb _ _ l′, e, e′, n)
@@ -113,7 +115,7 @@ module _ (feed : List ℕ) (t : ℕ) (room : Counts) where
       → (length feed ≤ longest) × (t < length (unfolded feed)) × (r .length ≡ length (unfolded feed))
   missing-text (too-long h) e = absurd (omega arith)
   missing-text (no-text-room h l) e = (h, l, refl)
-  missing-text (not-readable h l r place x) e = absurd (omega (arith, refusal-number r))
+  missing-text (not-readable h l r from x) e = absurd (omega (arith, refusal-number r))
   missing-text (no-room s r l x) e = absurd (omega arith)
   missing-text (all-read s r l a) e = absurd (omega arith)
 
@@ -127,7 +129,7 @@ module _ (feed : List ℕ) (t : ℕ) (room : Counts) where
       → (s : State) × Readable feed s × (length (unfolded feed) ≤ t) × Exceeds (countsOf s) room × (countsIn r ≡ countsOf s)
   missing-rows (too-long h) e = absurd (omega arith)
   missing-rows (no-text-room h l) e = absurd (omega arith)
-  missing-rows (not-readable h l r place x) e = absurd (omega (arith, refusal-number r))
+  missing-rows (not-readable h l r from x) e = absurd (omega (arith, refusal-number r))
   missing-rows (no-room s r l x) e = (s, r, l, x, refl)
   missing-rows (all-read s r l a) e = absurd (omega arith)
 
@@ -156,7 +158,7 @@ module _ (feed : List ℕ) (t : ℕ) (room : Counts) where
         → readingOf feed t′ room′ ≡ told done 0 (r .length) (countsIn r)
     named (too-long h) e l′ a = absurd (omega arith)
     named (no-text-room h l) e l′ a = absurd (omega arith)
-    named (not-readable h l r place x) e l′ a = absurd (omega (arith, refusal-number r))
+    named (not-readable h l r from x) e l′ a = absurd (omega (arith, refusal-number r))
     named (no-room s r l x) e l′ a = exactly feed t′ room′ (all-read s r l′ a)
     named (all-read s r l a) e l′ a′ = absurd (omega arith)
 
@@ -169,7 +171,7 @@ module _ (feed : List ℕ) (t : ℕ) (room : Counts) where
 fitted : (feed : List ℕ) (t : ℕ) (room : Counts) {r : Reading} → Answered feed t room r → r .answer ≡ noRoom → r .length ≤ t
 fitted feed t room (too-long h) e = absurd (omega arith)
 fitted feed t room (no-text-room h l) e = absurd (omega arith)
-fitted feed t room (not-readable h l r place x) e = absurd (omega (arith, refusal-number r))
+fitted feed t room (not-readable h l r from x) e = absurd (omega (arith, refusal-number r))
 fitted feed t room (no-room s r l x) e = l
 fitted feed t room (all-read s r l a) e = absurd (omega arith)
 
@@ -208,7 +210,7 @@ module _ (feed : List ℕ) (b : Lent) where
   unfolding textAfter
   nothing-laid (too-long h) some few e = rw (lt-leb _ _ h, e)
   nothing-laid (no-text-room h l) some few e = rw (le-leb _ _ h, lt-leb _ _ l, e)
-  nothing-laid (not-readable h l r place x) some few e = absurd (omega (arith, refusal-number r))
+  nothing-laid (not-readable h l r from x) some few e = absurd (omega (arith, refusal-number r))
   nothing-laid (no-room s r l x) some few e = absurd (omega arith)
   nothing-laid (all-read s r l a) some few e = absurd (omega arith)
 
@@ -216,7 +218,7 @@ module _ (feed : List ℕ) (b : Lent) where
   unfolding textAfter
   text-laid (too-long h) many e = absurd (omega arith)
   text-laid (no-text-room h l) many e = absurd (omega arith)
-  text-laid (not-readable h l r place x) many e =
+  text-laid (not-readable h l r from x) many e =
       let n : eqb (numberOf r) done ≡ false = ne-eqb (numberOf r) done (λ z. omega (arith, refusal-number r)) in
       rw (le-leb _ _ h, le-leb _ _ l, e, n, whole (unfolded feed) (b .text) l)
   text-laid (no-room s r l x) many e = rw (le-leb _ _ (r .short), le-leb _ _ l, e, whole (unfolded feed) (b .text) l)
@@ -226,12 +228,12 @@ module _ (feed : List ℕ) (b : Lent) where
   pub one-two-leave : 0 < readInto feed b .answer → readInto feed b .answer ≤ noTextRoom → left feed b ≡ b
   one-two-leave some few = nothing-laid (cases feed (length (b .text)) (roomIn b)) some few refl
 
-  -- "3 to 10 leave the unfolded text at the front of the text buffer, the bytes behind it as they were, and no table word changed"
-  pub three-ten-leave : noTextRoom < readInto feed b .answer → left feed b ≡ textOnly feed b
-  three-ten-leave many = text-laid (cases feed (length (b .text)) (roomIn b)) many refl
+  -- "3 to 10 leave the unfolded text at the front of the text buffer, the bytes behind it as they were, and no table word changed"; so do 17 and 18
+  pub later-leave : noTextRoom < readInto feed b .answer → left feed b ≡ textOnly feed b
+  later-leave many = text-laid (cases feed (length (b .text)) (roomIn b)) many refl
 
   pub two-leaves : readInto feed b .answer ≡ noTextRoom → left feed b ≡ b
   two-leaves e = one-two-leave (omega arith) (omega arith)
 
   pub ten-leaves : readInto feed b .answer ≡ noRoom → left feed b ≡ textOnly feed b
-  ten-leaves e = three-ten-leave (omega arith)
+  ten-leaves e = later-leave (omega arith)

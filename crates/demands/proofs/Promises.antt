@@ -19,6 +19,7 @@ use Rattle.tables.specs.declared.Found.the-variants.{Nothing}
 use Rattle.nesting.specs.Steps.{State, countsOf}
 use Rattle.reading.specs.Answers.{refusal}
 use Rattle.reading.specs.Lent.{roomIn, readInto, left}
+use Rattle.reading.specs.declared.Reading.{Reading}
 use Rattle.folding.specs.Pieces.{physical, Within}
 use Rattle.folding.specs.Strict.{first, strict, strictPieces, Full}
 use Rattle.folding.specs.Repository.{repository}
@@ -42,14 +43,17 @@ use Rattle.demands.specs.Readable.{Readable, ReadTo}
 use Rattle.demands.specs.Room.{AtMost, Exceeds, SameLeft, Suffices}
 use Rattle.demands.specs.Returning.{Enough}
 use Rattle.demands.specs.Grammar.{Calendar}
+use Rattle.demands.specs.LineFaults.{BadLine}
 use Rattle.demands.specs.GrammarRefusals.{Broken}
+use Rattle.demands.specs.Before.{ToldBy, Became}
 use Rattle.demands.specs.Examples.{starred, allHold}
 use Rattle.demands.proofs.Calls as calls
 use Rattle.demands.proofs.Readable.{readable-done, done-exactly}
 use Rattle.demands.proofs.SaidNesting.{rows}
 use Rattle.demands.proofs.Grammar.{readable-calendar, answered-broken, broken-answered}
+use Rattle.demands.proofs.Before.{told-before, became}
 use Rattle.demands.proofs.MeetsRule.{done-meets}
-use Rattle.demands.proofs.MoreRoom.{same-reading, two-exactly, ten-exactly, refusals-suffice, one-two-leave, three-ten-leave}
+use Rattle.demands.proofs.MoreRoom.{same-reading, two-exactly, ten-exactly, refusals-suffice, one-two-leave, later-leave}
 use Rattle.demands.proofs.OutRoom.{fold-room, quote-room, text-room, value-room, write-room}
 use Rattle.demands.proofs.Folds.{strict-unfolds, repository-unfolds, strict-75, strict-full}
 use Rattle.demands.proofs.Texts.{told-back, bad-escape-at, text-no-longer}
@@ -77,11 +81,11 @@ definite = (
 pub text-definite : Determined calls.readText (λ κs r. r) × Determined calls.writeText (λ κs r. r) × Determined calls.compareLooseTwins (λ κs r. r)
 text-definite = (calls.read-text-determined, calls.write-text-determined, calls.compare-loose-twins-determined)
 
--- 2. Refusals 1 and 2 of a reading change nothing lent; 3 to 10 leave the unfolded text at the front of the text, the bytes behind it as they were,
--- and no table word changed. [B-37, B-38]
+-- 2. Refusals 1 and 2 of a reading change nothing lent; 3 to 10, 17 and 18 leave the unfolded text at the front of the text, the bytes behind it as they were,
+-- and no table word changed. [B-37, B-38, R2-01]
 pub refusals-leave : (feed : List ℕ) (b : Lent) → (0 < readInto feed b .answer → readInto feed b .answer ≤ noTextRoom → left feed b ≡ b)
     × (noTextRoom < readInto feed b .answer → left feed b ≡ textOnly feed b)
-refusals-leave feed b = (one-two-leave feed b, three-ten-leave feed b)
+refusals-leave feed b = (one-two-leave feed b, later-leave feed b)
 
 -- ---- Demand 2: answers are those of the definitions, and a tree comes back
 
@@ -94,12 +98,18 @@ done-is-readable = done-exactly
 pub readable-is-grammar : (feed : List ℕ) (s : State) → Readable feed s ↔ ((length feed ≤ longest) × Calendar (unfolded feed) (rows s) × (s .opens ≡ []))
 readable-is-grammar = readable-calendar
 
--- 5. And where the grammar is broken the answer is the number and the place that the grammar gives, for 3 to 9. [B-18 to B-24, B-33]
+-- 5. And where the grammar is broken the answer is the number and the place that the grammar gives, for 3 to 9, 17 and 18: these are the answers from 3 on
+-- that are not 10. [B-18 to B-24, B-33, R2-01 to R2-03]
 pub refused-is-grammar : (feed : List ℕ) (b : Lent)
     → ((number place : ℕ) → length feed ≤ longest → length (unfolded feed) ≤ length (b .text) → Broken (unfolded feed) number place
     → readInto feed b ≡ refusal number place (length (unfolded feed)))
-    × (2 < readInto feed b .answer → readInto feed b .answer < 10 → Broken (unfolded feed) (readInto feed b .answer) (readInto feed b .place))
+    × (noTextRoom < readInto feed b .answer → (readInto feed b .answer ≡ noRoom → ⊥) → Broken (unfolded feed) (readInto feed b .answer) (readInto feed b .place))
 refused-is-grammar feed b = (λ number place. broken-answered feed b, answered-broken feed b)
+
+-- 5a. Before 7 was split it was told of every line in a component that is no property, at its start. Each feed had its answer then; exactly those that were 7
+-- are 7, 17 or 18 now, with the same length and no counts, and no other answer changed. [R2-02, R2-04]
+pub seven-is-split : (feed : List ℕ) (b : Lent) → ((r : Reading) × ToldBy BadLine feed b r) × ((r : Reading) → ToldBy BadLine feed b r → Became r (readInto feed b))
+seven-is-split feed b = (told-before feed b, became feed b)
 
 -- 6. The numbers, the bytes and the words that a Done reading gives are those of the definition, and read back as they are. [B-73, B-38]
 pub done-gives : (feed : List ℕ) (b : Lent) (s : State) → Readable feed s → length (unfolded feed) ≤ length (b .text) → AtMost (countsOf s) (roomIn b) → ReadTo feed b s

@@ -29,7 +29,7 @@ use Rattle.parameters.proofs.Lists.{used-moved}
 use Rattle.parameters.proofs.RoundTrip.{Ends}
 use Rattle.lines.specs.Rule.{beginMark, endMark, afterBegin, afterEnd, beginOf, property, byKey, lineOf}
 use Rattle.lines.specs.declared.Property.{Property}
-use Rattle.lines.specs.declared.Fault.the-variants.{BadLine}
+use Rattle.lines.specs.declared.Fault.the-variants.{StrayByte}
 use Rattle.lines.specs.declared.Line.{Line}
 use Rattle.lines.specs.declared.Line.the-variants.{Empty, Begin, BadBegin, End, Content, Bad}
 use Rattle.lines.proofs.Rule.{begun, refused-key, empty-key, is-empty, is-begin, is-end, is-other, at-end, stray, valued as valued-line}
@@ -43,13 +43,13 @@ use Rattle.demands.proofs.SaidParameters.{found-all, ends-off, ends-beh
 
 -- ---- BEGIN and END
 
-capitals-begin : Every capital begin
+pub capitals-begin : Every capital begin
 capitals-begin = (refl, (refl, (refl, (refl, (refl, tt)))))
 
-capitals-end : Every capital end
+pub capitals-end : Every capital end
 capitals-end = (refl, (refl, (refl, tt)))
 
-found-mark : (ws line : List ℕ) → Every capital ws → startsWord (ws ++ colon ∷ []) line ≡ true → (rest : List ℕ) × Marked ws rest line
+pub found-mark : (ws line : List ℕ) → Every capital ws → startsWord (ws ++ colon ∷ []) line ≡ true → (rest : List ℕ) × Marked ws rest line
 found-mark ws line c h =
     let w = word-found ws (colon ∷ []) line c h in
     let n = colon-found (w .0 .rest) (w .1) in
@@ -137,7 +137,7 @@ closes-name {name} {line} c = rw (le-leb (afterEnd + length name) (length line) 
 -- ---- the key of a property line
 
 -- it is the longest run of key bytes
-key-size : (key rest : List ℕ) → Every keyByte key → keyByte (getD rest 0 colon) ≡ false → run keyByte (key ++ rest) ≡ length key
+pub key-size : (key rest : List ℕ) → Every keyByte key → keyByte (getD rest 0 colon) ≡ false → run keyByte (key ++ rest) ≡ length key
 key-size key rest k off = omega (arith, through keyByte key rest (every-run keyByte key k), no-run keyByte rest colon off)
 
 module _ (key rest : List ℕ) (k : Every keyByte key) (ends : Ends rest) where
@@ -227,7 +227,7 @@ module _ (key text : List ℕ) (k : Some keyByte key) where
 
   -- any other byte: none
   no-content : (x : ℕ) (value : List ℕ) → (x ≡ colon → ⊥) → reserved (key ++ (text ++ x ∷ value)) ≡ false → keyByte (getD (text ++ x ∷ value) 0 colon) ≡ false
-      → paramsUsed (paramsOf (text ++ x ∷ value) 0) ≡ length text → lineOf (key ++ (text ++ x ∷ value)) ≡ Bad BadLine
+      → paramsUsed (paramsOf (text ++ x ∷ value) 0) ≡ length text → lineOf (key ++ (text ++ x ∷ value)) ≡ Bad (StrayByte (length key + length text))
   no-content x value other free off used =
       let t : List ℕ = x ∷ value in
       by-key t free off used

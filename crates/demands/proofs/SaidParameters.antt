@@ -61,7 +61,7 @@ module _ (blanks key ys : List ℕ) (b : Every blank blanks) (k : Every keyByte 
   front-without h = front-bare whole refl (1 + length blanks) starts (length key) runs (λ q. h (sym next ∙ q))
 
   -- an `=`, and what stands behind it
-  front-with : (form : Form) → getD ys 0 0 ≡ equals → form ≡ formOf (drop 1 ys)
+  pub front-with : (form : Form) → getD ys 0 0 ≡ equals → form ≡ formOf (drop 1 ys)
       → Found
       (param (span (1 + length blanks) (length key)) (valueAt (1 + length blanks + length key + 1) form) (1 + length blanks + length key + 1 + formUsed form))
       ≡ frontOf whole
@@ -71,8 +71,8 @@ module _ (blanks key ys : List ℕ) (b : Every blank blanks) (k : Every keyByte 
 -- ---- one parameter
 
 -- the parameter takes these bytes, and has this row
-record Shows (number at : ℕ) (blanks key value : List ℕ) (present start len : ℕ) (p : Param) : Type 0 where
-  used : p .used ≡ 1 + length blanks + length key + length value
+pub record Shows (number at : ℕ) (blanks key value : List ℕ) (present start len : ℕ) (p : Param) : Type 0 where
+  pub used : p .used ≡ 1 + length blanks + length key + length value
   row : parameterRow number (moved at p) ≡ rowWith number (at + 1 + length blanks) (length key) present start len
 
 -- a parameter of the grammar stands at the front, and it is p
@@ -205,7 +205,7 @@ module _ (number at : ℕ) (blanks key value rest : List ℕ) {present start len
       let n : at + p .used ≡ past = omega (arith, s .used) in
       turn at from p h ∙ rw (rest-left, n)
 
-  used-turned : frontOf from ≡ Found p → paramsUsed (paramsAfter at 0 from) ≡ p .used + paramsUsed (paramsAfter past 0 rest)
+  pub used-turned : frontOf from ≡ Found p → paramsUsed (paramsAfter at 0 from) ≡ p .used + paramsUsed (paramsAfter past 0 rest)
   unfolding paramsUsed
   used-turned h = ap paramsUsed (turned h)
 
@@ -277,7 +277,7 @@ ends-off class s c x h = go (eqb x semicolon) (eqb x colon) refl refl (ap not h)
     go false true p q r = ap class (eqb-true x colon q) ∙ c
     go false false p q r = absurd (false≢true r)
 
-key-no-blank : (x : ℕ) → keyByte x ≡ true → blank x ≡ false
+pub key-no-blank : (x : ℕ) → keyByte x ≡ true → blank x ≡ false
 key-no-blank x h = go (eqb x space) (eqb x tab) refl refl
   where
     go : (s t : Bool) → eqb x space ≡ s → eqb x tab ≡ t → s || t ≡ false
@@ -285,7 +285,7 @@ key-no-blank x h = go (eqb x space) (eqb x tab) refl refl
     go false true p q = sym h ∙ ap keyByte (eqb-true x tab q)
     go false false p q = refl
 
-no-gap : (key ys : List ℕ) → Every keyByte key → blank (getD ys 0 colon) ≡ false → blank (getD (key ++ ys) 0 colon) ≡ false
+pub no-gap : (key ys : List ℕ) → Every keyByte key → blank (getD ys 0 colon) ≡ false → blank (getD (key ++ ys) 0 colon) ≡ false
 no-gap [] ys k h = h
 no-gap (x ∷ key) ys k h = key-no-blank x (k .0)
 
@@ -293,9 +293,9 @@ row-at : (number size len : ℕ) {key key′ start start′ : ℕ} → key ≡ k
 row-at number size len p q = cc
 
 -- the parameter at the front is p
-record Taken (number at : ℕ) (blanks key value rest : List ℕ) (present start len : ℕ) (p : Param) : Type 0 where
-  found : frontOf (semicolon ∷ (blanks ++ (key ++ (value ++ rest)))) ≡ Found p
-  shows : Shows number at blanks key value present start len p
+pub record Taken (number at : ℕ) (blanks key value rest : List ℕ) (present start len : ℕ) (p : Param) : Type 0 where
+  pub found : frontOf (semicolon ∷ (blanks ++ (key ++ (value ++ rest)))) ≡ Found p
+  pub shows : Shows number at blanks key value present start len p
 
 module _ (number at : ℕ) (blanks key : List ℕ) (b : Every blank blanks) (k : Every keyByte key) where
   -- a value of this form
@@ -305,7 +305,7 @@ module _ (number at : ℕ) (blanks key : List ℕ) (b : Every blank blanks) (k :
   taken-form value rest form is s =
       record { found = sym (front-with blanks key (equals ∷ (value ++ rest)) b k (no-gap key (equals ∷ (value ++ rest)) k refl) refl form refl is); shows = s }
 
-  taken : {value rest : List ℕ} {present start len : ℕ} → Given (at + 1 + length blanks + length key) rest value present start len → Ends rest
+  pub taken : {value rest : List ℕ} {present start len : ℕ} → Given (at + 1 + length blanks + length key) rest value present start len → Ends rest
       → (p : Param) × Taken number at blanks key value rest present start len p
   taken {rest = rest} no-value e = (
     without number at blanks key,

@@ -47,6 +47,10 @@ module _ (inside rest : List ℕ) (i : Inside inside) where
   pub quoted-size : quotedLen (inQuotes inside ++ rest) ≡ length (inQuotes inside)
   quoted-size = rw (past-inside inside rest, size-quoted inside) (quoted-is quoted-here ∙ rw inside-size)
 
+-- where none is found, none stands
+pub none-quoted : (xs : List ℕ) → quotedLen xs ≡ 0 → Unquoted xs
+none-quoted xs none inside rest i e = let q = ap quotedLen e ∙ quoted-size inside rest i in omega (arith, size-quoted inside)
+
 -- and what is found is one
 pub record Part (xs : List ℕ) : Type 0 where
   pub inside : List ℕ
@@ -94,12 +98,12 @@ further-on inside rest i =
     (further-skip (length (inQuotes inside)) (inQuotes inside ++ rest) (omega (arith, length-append (inQuotes inside) rest))
     ∙ rw drop-append-seam))
 
--- all of them are found
-pub further-size : {further : List ℕ} → Further further → (rest : List ℕ) → furtherLen rest ≡ 0 → furtherLen (further ++ rest) ≡ length further
-further-size (last-part {inside = inside} i) rest e = omega (arith, further-on inside rest i)
-further-size (next-part {inside = inside} {later = later} i f) rest e =
+-- all of them are found, with those behind them
+pub further-size : {further : List ℕ} → Further further → (rest : List ℕ) → furtherLen (further ++ rest) ≡ length further + furtherLen rest
+further-size (last-part {inside = inside} i) rest = omega (arith, further-on inside rest i)
+further-size (next-part {inside = inside} {later = later} i f) rest =
     rw (append-assoc (inQuotes inside) later rest)
-    (omega (arith, further-on inside (later ++ rest) i, further-size f rest e, length-append (inQuotes inside) later))
+    (omega (arith, further-on inside (later ++ rest) i, further-size f rest, length-append (inQuotes inside) later))
 
 -- and what is found are such parts
 pub record Parts (xs : List ℕ) : Type 0 where
@@ -190,7 +194,7 @@ module _ (rest : List ℕ) (e : Ends rest) where
       let more : length further ≡ 0 → ⊥ = λ z. some-further f z in
       rw (length-append (inQuotes inside) further, append-assoc (inQuotes inside) further rest)
       (form-listed (inQuotes inside ++ (further ++ rest)) (length (inQuotes inside)) (sym (quoted-size inside (further ++ rest) i)) (λ z. omega arith)
-      (length further) (rw drop-append-seam (sym (further-size f rest (ends-further rest e)))) more)
+      (length further) (rw drop-append-seam (omega (arith, further-size f rest, ends-further rest e))) more)
     where
       some-further : {further : List ℕ} → Further further → length further ≡ 0 → ⊥
       some-further (last-part i) z = omega arith
@@ -235,7 +239,7 @@ module _ (at b place : ℕ) (there : place ≡ at + b) where
           used = sym (s .size);
           given =
               as-it-is {value = s .front} (record { some = omega (arith, s .size); every = s .every })
-              (λ inside rest i e. let q = ap quotedLen (s .is ∙ e) ∙ quoted-size inside rest i in omega (arith, size-quoted inside));
+              (λ inside rest i e. none-quoted zs none inside rest i (s .is ∙ e));
           row = λ number key size. row-is number key size (omega arith) (sym (s .size));
         }
 

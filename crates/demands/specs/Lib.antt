@@ -1,6 +1,7 @@
 pub mod Lent
 pub mod Readable
 pub mod LineGrammar
+pub mod LineFaults
 pub mod Grammar
 pub mod Room
 pub mod Outputs
@@ -8,5 +9,6 @@ pub mod Texts
 pub mod Writable
 pub mod Returning
 pub mod GrammarRefusals
+pub mod Before
 pub mod Examples
 pub mod Calls

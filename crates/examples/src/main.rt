@@ -34,12 +34,18 @@ fn list_example() {
 
 // "Split BadLine into an empty key, a reserved key, and a stray byte after key or parameters."
 fn list_refused() {
-    say(b"an empty key: ");
+    say(b"an empty key:\n");
     list(b"BEGIN:A\n:v\nEND:A\n");
-    say(b"a reserved key: ");
+    list(b"BEGIN:A\n\n  K:v\nEND:A\n");
+    say(b"a reserved key:\n");
+    list(b"BEGIN:A\nBEGIN;X=1:v\nEND:A\n");
     list(b"BEGIN:A\nend\nEND:A\n");
-    say(b"a stray byte: ");
+    say(b"a stray byte:\n");
+    list(b"BEGIN:A\nBEGIN x\nEND:A\n");
+    list(b"BEGIN:A\nEND\r");
+    list(b"BEGIN:A\nKEY foo:bar\nEND:A\n");
     list(b"BEGIN:A\nK;A=\"a\"b:v\nEND:A\n");
+    list(b"BEGIN:A\nK;A=\"x\",y:v\nEND:A\n");
 }
 
 fn main() {
