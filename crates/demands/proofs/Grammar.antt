@@ -2,15 +2,16 @@
 -- place, and the other way round. Assumes nothing.
 use mathlib.Core.Path.{_≡_, refl, sym, ap, subst, _∙_}
 use mathlib.Core.Bool.{Bool, true, false}
-use mathlib.Core.List.{List, [], _∷_, _++_, append-nil}
+use mathlib.Core.List.{List, [], _∷_, _++_, append-nil, append-assoc}
 use mathlib.Core.Logic.{_↔_}
 use Prim.Native.Nat.{ℕ, suc, _+_, _≤_, _<_}
 use native.Mathlib.Omega.{arith}
-use lib.ListN.{length, length-append}
+use lib.ListN.{length, getD, length-append}
+use lib.Seq.{getD-append-add, getD-append-seam}
 use lib.Dec.{eqb}
 use borrow.Author.Tests.{eqb-true, eqb-false, ne-eqb}
 use Rattle.octets.specs.Choice.{pick}
-use Rattle.octets.specs.Answers.{noTextRoom, noRoom}
+use Rattle.octets.specs.Answers.{noTextRoom, noRoom, strayByte}
 use Rattle.unfolding.specs.Unfold.{unfolded}
 use Rattle.lines.specs.Split.{Placed, linesFrom}
 use Rattle.lines.specs.Rule.{lineOf}
@@ -28,11 +29,12 @@ use Rattle.reading.specs.declared.Reading.{Reading}
 use Rattle.demands.specs.Readable.{Readable}
 use Rattle.demands.specs.Returning.{All}
 use Rattle.demands.specs.Grammar.{line, Lines, noRow, Rows, noRows, openedRow, withComponent, Body, no-line, empty-line, a-property, a-component, Calendar}
-use Rattle.demands.specs.GrammarRefusals.{Begun, in-this, in-another, Broken, at-line, unclosed, no-component}
+use Rattle.demands.specs.LineFaults.{Stray, StrayAt, Faulty, reserved-key, empty-key, stray-byte}
+use Rattle.demands.specs.GrammarRefusals.{Begun, in-this, in-another, Refuses, bad-begin, too-deep, none-open, other-name, outside, no-property, Broken, at-line, unclosed, no-component}
 use Rattle.demands.proofs.Cases.{Answered, cases, exactly}
 use Rattle.demands.proofs.Cases.Answered.{too-long, no-text-room, not-readable, no-room, all-read}
 use Rattle.demands.proofs.SaidBreaks.{lines-are, lines-found}
-use Rattle.demands.proofs.SaidNesting.{In, lines-in, state, rows, innermost, left-of, begun-of, all-front, passed, body-reads, Leaves, begun-reads}
+use Rattle.demands.proofs.SaidNesting.{In, lines-in, state, rows, innermost, left-of, begun-of, all-front, all-back, passed, body-reads, Leaves, begun-reads}
 use Rattle.demands.proofs.SaidRefusals.{refuses, refused-by}
 
 -- ---- what the grammar has of a body
@@ -279,3 +281,46 @@ answered-broken feed b = go (cases feed (length (b .text)) (roomIn b))
     go (not-readable h t x from o) l u = refused-broken (unfolded feed) x from o
     go (no-room s r t x) l u = absurd (u refl)
     go (all-read s r t a) l u = absurd (omega arith)
+
+-- ---- the byte that 18 is told at
+
+-- a stray byte of a line of the text is a byte of the text
+stray-in : (text : List ℕ) (at : ℕ) (content front : List ℕ) → In text (line at content) → Stray front content → StrayAt text (at + length front)
+stray-in text at content front i s =
+    let is : text ≡ i .before ++ (front ++ s .byte ∷ (s .rest ++ i .behind)) =
+    i .is ∙ ap (λ (l : List ℕ). i .before ++ (l ++ i .behind)) (s .is) ∙ ap (_++_ (i .before)) (append-assoc front (s .byte ∷ s .rest) (i .behind)) in
+    let here : getD text (at + length front) 0 ≡ s .byte =
+    ap (λ (l : List ℕ). getD l (at + length front) 0) is
+    ∙ ap (λ (n : ℕ). getD (i .before ++ (front ++ s .byte ∷ (s .rest ++ i .behind))) (n + length front) 0) (i .at)
+    ∙ getD-append-add (i .before) (front ++ s .byte ∷ (s .rest ++ i .behind)) (length front) 0
+    ∙ getD-append-seam front (s .byte) (s .rest ++ i .behind) 0 in
+    record {
+      inside = omega (arith, i .at, ap length is, length-append (i .before) (front ++ s .byte ∷ (s .rest ++ i .behind)), length-append front (s .byte ∷ (s .rest ++ i .behind)));
+      no-colon = λ q. s .no-colon (sym here ∙ q);
+      no-semicolon = λ q. s .no-semicolon (sym here ∙ q);
+    }
+
+-- 18 is the number of a stray byte alone
+of-stray : {at number place : ℕ} {line : List ℕ} → Faulty at line number place → number ≡ strayByte → (front : List ℕ) × Stray front line × (place ≡ at + length front)
+of-stray (reserved-key r) e = absurd (omega arith)
+of-stray (empty-key h off) e = absurd (omega arith)
+of-stray (stray-byte {front = front} h s) e = (front, s, refl)
+
+stray-broken : (text : List ℕ) {number place : ℕ} → Broken text number place → number ≡ strayByte → StrayAt text place
+unfolding All
+stray-broken text (at-line {at = at} {content = content} {before = before} behind l b w) e = go w e
+  where
+    go : {number place depth : ℕ} {name : List ℕ} → Refuses Faulty depth name at content number place → number ≡ strayByte → StrayAt text place
+    go (bad-begin m h) e = absurd (omega arith)
+    go (too-deep o d) e = absurd (omega arith)
+    go (none-open m d) e = absurd (omega arith)
+    go (other-name m h) e = absurd (omega arith)
+    go (outside o d) e = absurd (omega arith)
+    go (no-property o d f) e =
+        let s = of-stray f e in
+        rw (s .2) (stray-in text at content (s .0) (all-back (In text) before (line at content ∷ behind) (split-in text l) .0) (s .1))
+stray-broken text (unclosed l b some) e = absurd (omega arith)
+stray-broken text (no-component l b) e = absurd (omega arith)
+
+pub stray-told : (feed : List ℕ) (b : Lent) → readInto feed b .answer ≡ strayByte → StrayAt (unfolded feed) (readInto feed b .place)
+stray-told feed b e = stray-broken (unfolded feed) (answered-broken feed b (omega arith) (λ z. omega arith)) e

@@ -11,7 +11,7 @@ use mathlib.Core.Logic.{_↔_}
 use Prim.Native.Nat.{ℕ, _≤_, _<_}
 use lib.ListN.{length, drop}
 use Rattle.octets.specs.Bytes.{other}
-use Rattle.octets.specs.Answers.{longest, done, noTextRoom, noRoom, badEscape, output}
+use Rattle.octets.specs.Answers.{longest, done, noTextRoom, noRoom, badEscape, strayByte, output}
 use Rattle.unfolding.specs.Unfold.{unfolded}
 use Rattle.unfolding.proofs.Laws.{Unbroken}
 use Rattle.tables.specs.Lent.{Lent, componentsIn, brokenIn, treesIn, treeIn}
@@ -43,14 +43,14 @@ use Rattle.demands.specs.Readable.{Readable, ReadTo}
 use Rattle.demands.specs.Room.{AtMost, Exceeds, SameLeft, Suffices}
 use Rattle.demands.specs.Returning.{Enough}
 use Rattle.demands.specs.Grammar.{Calendar}
-use Rattle.demands.specs.LineFaults.{BadLine}
+use Rattle.demands.specs.LineFaults.{StrayAt, BadLine}
 use Rattle.demands.specs.GrammarRefusals.{Broken}
 use Rattle.demands.specs.Before.{ToldBy, Became}
 use Rattle.demands.specs.Examples.{starred, allHold}
 use Rattle.demands.proofs.Calls as calls
 use Rattle.demands.proofs.Readable.{readable-done, done-exactly}
 use Rattle.demands.proofs.SaidNesting.{rows}
-use Rattle.demands.proofs.Grammar.{readable-calendar, answered-broken, broken-answered}
+use Rattle.demands.proofs.Grammar.{readable-calendar, answered-broken, broken-answered, stray-told}
 use Rattle.demands.proofs.Before.{told-before, became}
 use Rattle.demands.proofs.MeetsRule.{done-meets}
 use Rattle.demands.proofs.MoreRoom.{same-reading, two-exactly, ten-exactly, refusals-suffice, one-two-leave, later-leave}
@@ -106,7 +106,11 @@ pub refused-is-grammar : (feed : List ℕ) (b : Lent)
     × (noTextRoom < readInto feed b .answer → (readInto feed b .answer ≡ noRoom → ⊥) → Broken (unfolded feed) (readInto feed b .answer) (readInto feed b .place))
 refused-is-grammar feed b = (λ number place. broken-answered feed b, answered-broken feed b)
 
--- 5a. Before 7 was split it was told of every line in a component that is no property, at its start. Each feed had its answer then; exactly those that were 7
+-- 5a. 18 is told at a byte of the unfolded text, which is neither `:` nor `;`. [R2-01]
+pub stray-byte-told : (feed : List ℕ) (b : Lent) → readInto feed b .answer ≡ strayByte → StrayAt (unfolded feed) (readInto feed b .place)
+stray-byte-told = stray-told
+
+-- 5b. Before 7 was split it was told of every line in a component that is no property, at its start. Each feed had its answer then; exactly those that were 7
 -- are 7, 17 or 18 now, with the same length and no counts, and no other answer changed. [R2-02, R2-04]
 pub seven-is-split : (feed : List ℕ) (b : Lent) → ((r : Reading) × ToldBy BadLine feed b r) × ((r : Reading) → ToldBy BadLine feed b r → Became r (readInto feed b))
 seven-is-split feed b = (told-before feed b, became feed b)

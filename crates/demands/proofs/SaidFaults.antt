@@ -19,7 +19,9 @@ use Rattle.octets.proofs.Runs.{no-run, stopped, through}
 use Rattle.octets.proofs.Keys.{taken, refused}
 use Rattle.octets.proofs.Bools.{both}
 use Rattle.parameters.specs.Values.{span}
+use Rattle.parameters.specs.Parameter.{frontOf}
 use Rattle.parameters.specs.Parameters.{passedOf}
+use Rattle.parameters.specs.declared.Front.the-variants.{NoParameter}
 use Rattle.parameters.proofs.RoundTrip.{Ends}
 use Rattle.lines.specs.Rule.{beginMark, endMark, afterBegin, byKey, lineOf}
 use Rattle.lines.specs.declared.Fault.{Fault}
@@ -28,12 +30,13 @@ use Rattle.lines.specs.declared.Line.the-variants.{Begin, BadBegin, Bad}
 use Rattle.lines.proofs.Rule.{refused-key, empty-key, is-empty, is-begin, is-end, is-other, at-end, stray, valued}
 use Rattle.reading.specs.Answers.{faultNumber, faultPlace}
 use Rattle.demands.specs.LineGrammar.{Every, Some, begin, end, AnyCase, as-capital, as-small, Marked}
-use Rattle.demands.specs.LineFaults.{Stops, at-colon, at-semicolon, at-end as at-line-end, ReservedLine, begin-key, end-key, Keyed, key-parameters, Stray, Faulty, reserved-key, empty-key as no-key, stray-byte}
+use Rattle.demands.specs.LineFaults.{Stops, at-colon, at-semicolon, at-end as at-line-end, ReservedLine, begin-key, end-key, Keyed, key-parameters}
+use Rattle.demands.specs.LineFaults.{Stray, Faulty, reserved-key, empty-key as no-key, stray-byte}
 use Rattle.demands.specs.GrammarRefusals.{Other}
 use Rattle.demands.proofs.Scanning.{reserved-in}
 use Rattle.demands.proofs.SaidWords.{every-run, Word, word-found, word-length, word-alone}
 use Rattle.demands.proofs.SaidLines.{capitals-begin, capitals-end, found-mark}
-use Rattle.demands.proofs.SaidFronts.{keyed-reaches, keyed-front}
+use Rattle.demands.proofs.SaidFronts.{keyed-reaches, Front-of, front-of}
 
 -- ---- a reserved key
 
@@ -100,6 +103,14 @@ reserved-has-key {byte} {rest} r = go r refl
 
 -- ---- from the reading to the grammar
 
+-- where no parameter begins there is no `;`
+none-begins : (byte : ℕ) (rest : List ℕ) → frontOf (byte ∷ rest) ≡ NoParameter → byte ≡ semicolon → ⊥
+unfolding frontOf
+none-begins byte rest e q =
+    let f : frontOf (semicolon ∷ rest) ≡ NoParameter = rw q at e in
+    let z : _≡_ {A = ℕ} 0 1 = cc in
+    omega arith
+
 module _ (line : List ℕ) where
   -- where the reading of key and parameters ends
   abbrev stop : ℕ
@@ -111,22 +122,28 @@ module _ (line : List ℕ) where
       subst (λ (l : List ℕ). length longer ≤ run keyByte l + passedOf (drop (run keyByte l) l) .used) (sym e) (keyed-reaches k behind)
 
   stray-said : (run keyByte line ≡ 0 → ⊥) → (stop ≡ length line → ⊥) → (getD line stop 0 ≡ colon → ⊥) → (front : List ℕ) × Stray front line × (length front ≡ stop)
-  stray-said some short other = go (keyed-front line some)
+  stray-said some short other = go (w .rest) (w .is) (w .no-more)
     where
-      go : (front : List ℕ) × (rest : List ℕ) × Keyed front × (line ≡ front ++ rest) × (length front ≡ stop) → (front : List ℕ) × Stray front line × (length front ≡ stop)
-      go (front, [], k, is, size) = absurd (short (omega (arith, size, ap length is, length-append front [])))
-      go (front, byte ∷ rest, k, is, size) = (
-        front,
-        record {
-          byte = byte;
-          rest = rest;
-          is = is;
-          keyed = k;
-          longest = λ longer behind e l. omega (arith, size, no-longer longer behind e l);
-          no-colon = λ q. other (ap (λ (l : List ℕ). getD l stop 0) is ∙ ap (λ (n : ℕ). getD (front ++ byte ∷ rest) n 0) (sym size) ∙ getD-append-seam front byte rest 0 ∙ q);
-        },
-        size,
-      )
+      w : Front-of line
+      w = front-of line some
+
+      go : (rest : List ℕ) → line ≡ w .front ++ rest → frontOf rest ≡ NoParameter → (front : List ℕ) × Stray front line × (length front ≡ stop)
+      go [] is none = absurd (short (omega (arith, w .size, ap length is, length-append (w .front) [])))
+      go (byte ∷ rest) is none =
+          let here : getD line stop 0 ≡ byte =
+          ap (λ (l : List ℕ). getD l stop 0) is ∙ ap (λ (n : ℕ). getD (w .front ++ byte ∷ rest) n 0) (sym (w .size)) ∙ getD-append-seam (w .front) byte rest 0 in (
+            w .front,
+            record {
+              byte = byte;
+              rest = rest;
+              is = is;
+              keyed = w .keyed;
+              longest = λ longer behind e l. omega (arith, w .size, no-longer longer behind e l);
+              no-colon = λ q. other (here ∙ q);
+              no-semicolon = none-begins byte rest none;
+            },
+            w .size,
+          )
 
   module _ (at : ℕ) (f : Fault) where
     abbrev Said : Type 0
@@ -236,8 +253,8 @@ fault-read {at} {line = line} o (stray-byte {front = front} h s) =
     -- the longest front ends where the reading does
     ends : stop line ≡ length front
     ends =
-        let w = keyed-front line some in
-        omega (arith, no-longer line front (s .byte ∷ s .rest) (s .is) (s .keyed), s .longest (w .0) (w .1) (w .3) (w .2), w .4)
+        let w = front-of line some in
+        omega (arith, no-longer line front (s .byte ∷ s .rest) (s .is) (s .keyed), s .longest (w .front) (w .rest) (w .is) (w .keyed), w .size)
 
     short : stop line ≡ length line → ⊥
     short z = omega (arith, ends, ap length (s .is), length-append front (s .byte ∷ s .rest))

@@ -16,6 +16,7 @@ use Rattle.parameters.specs.Values.{quotedLen, furtherLen, formOf, formUsed}
 use Rattle.parameters.specs.Parameter.{keyEnd, withoutValue, withForm, paramOf, frontOf}
 use Rattle.parameters.specs.Parameters.{paramsAfter, paramsUsed, passedOf}
 use Rattle.parameters.specs.declared.Param.{Param}
+use Rattle.parameters.specs.declared.Front.the-variants.{NoParameter}
 use Rattle.parameters.proofs.Values.{quoted-is, quoted-has, form-bare, form-quoted, form-listed}
 use Rattle.parameters.proofs.Laws.{found-is}
 use Rattle.parameters.proofs.Lists.{turn, used-moved}
@@ -215,16 +216,25 @@ keyed-reaches (key-parameters {key = key} {parameters = text} k ps) rest = rw (a
         rw (key-size key (x ∷ text ++ rest) (k .every) off, drop-append-seam)
         (omega (arith, length-append key (x ∷ text), used-moved (length key) (x ∷ text ++ rest)))
 
--- and what the reading passes over is a key and its parameters
-pub keyed-front : (line : List ℕ) → (run keyByte line ≡ 0 → ⊥)
-    → (front : List ℕ) × (rest : List ℕ) × Keyed front × (line ≡ front ++ rest) × (length front ≡ run keyByte line + passedOf (drop (run keyByte line) line) .used)
-keyed-front line some =
+-- and what the reading passes over is a key and its parameters, behind which no other one begins
+pub record Front-of (line : List ℕ) : Type 0 where
+  pub front : List ℕ
+  pub rest : List ℕ
+  pub is : line ≡ front ++ rest
+  pub keyed : Keyed front
+  pub size : length front ≡ run keyByte line + passedOf (drop (run keyByte line) line) .used
+  pub no-more : frontOf rest ≡ NoParameter
+
+pub front-of : (line : List ℕ) → (run keyByte line ≡ 0 → ⊥) → Front-of line
+front-of line some =
     let s = split keyByte colon refl line in
     let f = found-all (length (s .back)) 0 (length (s .front)) (s .back) (omega arith) in
-    let left : drop (run keyByte line) line ≡ s .back = rw (← s .size) (ap (drop (length (s .front))) (s .is) ∙ drop-append-seam (s .front) (s .back)) in (
-      s .front ++ f .text,
-      f .tail,
-      key-parameters {key = s .front} (record { some = omega (arith, s .size); every = s .every }) (shorter-tail [] (f .tail) (f .parameters)),
-      s .is ∙ ap (λ (l : List ℕ). s .front ++ l) (f .is) ∙ sym (append-assoc (s .front) (f .text) (f .tail)),
-      omega (arith, length-append (s .front) (f .text), s .size, f .size, used-moved (length (s .front)) (s .back), ap (λ (l : List ℕ). passedOf l .used) left),
-    )
+    let left : drop (run keyByte line) line ≡ s .back = rw (← s .size) (ap (drop (length (s .front))) (s .is) ∙ drop-append-seam (s .front) (s .back)) in
+    record {
+      front = s .front ++ f .text;
+      rest = f .tail;
+      is = s .is ∙ ap (λ (l : List ℕ). s .front ++ l) (f .is) ∙ sym (append-assoc (s .front) (f .text) (f .tail));
+      keyed = key-parameters {key = s .front} (record { some = omega (arith, s .size); every = s .every }) (shorter-tail [] (f .tail) (f .parameters));
+      size = omega (arith, length-append (s .front) (f .text), s .size, f .size, used-moved (length (s .front)) (s .back), ap (λ (l : List ℕ). passedOf l .used) left);
+      no-more = f .no-more;
+    }

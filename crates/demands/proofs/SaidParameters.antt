@@ -222,13 +222,14 @@ pub record Found-all (number at : ℕ) (xs : List ℕ) : Type 0 where
   pub is : xs ≡ text ++ tail
   pub size : paramsUsed (paramsAfter at 0 xs) ≡ length text
   pub parameters : Parameters number tail at text (map (parameterRow number) (paramsAfter at 0 xs))
+  pub no-more : frontOf tail ≡ NoParameter
 
 -- none is found
 found-none : (number at : ℕ) (xs : List ℕ) → frontOf xs ≡ NoParameter → Found-all number at xs
 unfolding paramsUsed
 found-none number at xs h =
     let e = stop at xs h in
-    record { text = []; tail = xs; is = refl; size = ap paramsUsed e; parameters = rw e no-parameter }
+    record { text = []; tail = xs; is = refl; size = ap paramsUsed e; parameters = rw e no-parameter; no-more = h }
 
 -- one is found, and then those behind it
 found-one : (number at : ℕ) (xs : List ℕ) (p : Param) → frontOf xs ≡ Found p → (o : One number at xs p)
@@ -248,6 +249,7 @@ found-one number at xs p h o later =
       parameters =
           subst (Parameters number (later .tail) at text) (sym (ap (λ (l : List ℕ). map (parameterRow number) (paramsAfter at 0 l)) (o .is) ∙ rows))
           (parameter (o .blanks) (o .key) (o .blank-every) (o .key-every) (rw (later .is) at (o .given)) (later .parameters));
+      no-more = later .no-more;
     }
 
 -- by a bound of the bytes that are left

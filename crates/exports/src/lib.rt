@@ -35,7 +35,8 @@ fn tell_reading(r: Reading, numbers: &mut [usize; 6])
     ];
 }
 
-// Reads a feed into the text and the three tables.
+// Reads a feed into the text and the three tables. Of a line in a component that is no property the numbers tell what is wrong: 17 ReservedKey,
+// 7 EmptyKey, or 18 StrayByte, with the place of that byte.
 #[no_mangle]
 pub extern "C" fn hawniretem_read(
     feed: &[u8],
