@@ -2,21 +2,19 @@
 use mathlib.Core.Path.{_≡_, refl, sym, subst}
 use mathlib.Core.Logic.{_↔_, _⊎_, inl, inr, ⊎-elim}
 use mathlib.Core.List.{List}
-use Prim.Native.Nat.{ℕ, _≤_, _<_}
+use Prim.Native.Nat.{ℕ, _+_, _≤_, _<_}
 use native.Mathlib.Omega.{arith}
-use lib.ListN.{length}
+use lib.ListN.{length, length-append}
 use Rattle.lines.specs.Rule.{lineOf}
-use Rattle.lines.specs.declared.Fault.{Fault}
-use Rattle.lines.specs.declared.Fault.the-variants.{ReservedKey, EmptyKey, StrayByte}
 use Rattle.lines.specs.declared.Line.{Line}
 use Rattle.lines.specs.declared.Line.the-variants.{Empty, Begin, BadBegin, End, Content, Bad}
 use Rattle.tables.specs.Lent.{Lent}
 use Rattle.reading.specs.Answers.{refusal, faultNumber, faultPlace}
 use Rattle.reading.specs.Lent.{roomIn, readInto}
 use Rattle.reading.specs.declared.Reading.{Reading}
-use Rattle.demands.specs.LineFaults.{Faulty, BadLine, bad-line}
+use Rattle.demands.specs.LineFaults.{Keyed, key-parameters, Faulty, reserved-key, empty-key, stray-byte, BadLine, bad-line}
 use Rattle.demands.specs.GrammarRefusals.{Rule, Other, Refuses, bad-begin, too-deep, none-open, other-name, outside, no-property, BrokenBy, at-line, unclosed, no-component, Broken}
-use Rattle.demands.specs.Before.{ToldBy, too-long, no-text-room, no-calendar, no-room, all-read, OfThree, Became, finer, the-same}
+use Rattle.demands.specs.Before.{ToldBy, too-long, no-text-room, no-calendar, no-room, all-read, OfThree, Became, became-reserved, became-empty, became-stray, the-same}
 use Rattle.demands.proofs.Cases as cases
 use Rattle.demands.proofs.Cases.{Answered, exactly}
 use Rattle.demands.proofs.SaidLines.{property-read, Says, says}
@@ -26,24 +24,21 @@ use Rattle.demands.proofs.Grammar.{broken-answered, refused-broken}
 
 -- ---- one line
 
--- a fault has one of the three numbers, and its place is in its line
-fault-of-three : (f : Fault) → OfThree (faultNumber f)
-fault-of-three ReservedKey = inr (inl refl)
-fault-of-three EmptyKey = inl refl
-fault-of-three (StrayByte at) = inr (inr refl)
+-- a front that is a key and its parameters has a byte at least
+keyed-some : {front : List ℕ} → Keyed front → 0 < length front
+keyed-some (key-parameters {key = key} {parameters = text} k ps) = omega (arith, k .some, length-append key text)
 
-fault-behind : (f : Fault) (at : ℕ) → at ≤ faultPlace f at
-fault-behind ReservedKey at = omega arith
-fault-behind EmptyKey at = omega arith
-fault-behind (StrayByte n) at = omega arith
+-- what became of 7 where the line has this fault
+of-fault : {at number place size : ℕ} {line : List ℕ} → Faulty at line number place → Became (refusal 7 at size) (refusal number place size)
+of-fault (reserved-key r) = became-reserved
+of-fault (empty-key h off) = became-empty
+of-fault {at} (stray-byte {front = front} h s) = became-stray {at = at} {place = at + length front} (omega (arith, keyed-some (s .keyed)))
 
 -- what is wrong with a line now
 record Wrong (at : ℕ) (line : List ℕ) : Type 0 where
   number : ℕ
   place : ℕ
   wrong : Faulty at line number place
-  of-three : OfThree number
-  behind : at ≤ place
 
 module _ {at : ℕ} {line : List ℕ} (o : Other line) where
   -- a line that is no property has one of the three faults
@@ -56,8 +51,7 @@ module _ {at : ℕ} {line : List ℕ} (o : Other line) where
       go BadBegin e n s = absurd n
       go (End found) e n s = absurd n
       go (Content p) e n s = absurd (h 0 0 0 _ _ s)
-      go (Bad f) e n s =
-          record { number = faultNumber f; place = faultPlace f at; wrong = faulty line at f e; of-three = fault-of-three f; behind = fault-behind f at }
+      go (Bad f) e n s = record { number = faultNumber f; place = faultPlace f at; wrong = faulty line at f e }
 
   -- and a line that has one is no property
   was-wrong : {number place : ℕ} → Faulty at line number place → BadLine at line 7 at
@@ -102,7 +96,7 @@ module _ {text : List ℕ} (size : ℕ) where
       go (inl (r, h)) = unchanged (at-line behind l b r) (λ z. omega arith) (omega arith)
       go (inr (o, d, bad-line h)) =
           let n = now-wrong o (bad-line h) in
-          record { number′ = n .number; place′ = n .place; is = at-line behind l b (no-property o d (n .wrong)); became = finer (n .of-three) (n .behind) }
+          record { number′ = n .number; place′ = n .place; is = at-line behind l b (no-property o d (n .wrong)); became = of-fault (n .wrong) }
   now-broken (unclosed l b some) = unchanged (unclosed l b some) (λ z. omega arith) (omega arith)
   now-broken (no-component l b) = unchanged (no-component l b) (λ z. omega arith) (omega arith)
 

@@ -32,7 +32,10 @@ pub data ToldBy (wrong : Rule) (feed : List ℕ) (b : Lent) : Reading → Type 0
 abbrev pub OfThree : ℕ → Type 0
 OfThree number = (number ≡ 7) ⊎ ((number ≡ 17) ⊎ (number ≡ 18))
 
--- the reading before, and the reading now: 7 became one of the three, in the same line; every other reading is the same, and was none of them
+-- the reading before, and the reading now: 7 became one of the three, at the same place or, of a stray byte, behind it; every other reading is the same,
+-- and was none of them
 pub data Became : Reading → Reading → Type 0 where
-  finer : {number at place size : ℕ} → OfThree number → at ≤ place → Became (refusal 7 at size) (refusal number place size)
+  became-reserved : {at size : ℕ} → Became (refusal 7 at size) (refusal 17 at size)
+  became-empty : {at size : ℕ} → Became (refusal 7 at size) (refusal 7 at size)
+  became-stray : {at place size : ℕ} → at < place → Became (refusal 7 at size) (refusal 18 place size)
   the-same : {r : Reading} → (OfThree (r .answer) → ⊥) → Became r r

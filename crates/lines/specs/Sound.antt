@@ -20,6 +20,7 @@ pub record SoundProperty (line : List ℕ) (p : Property) : Type 0 where
   pub behind : p .key .len + paramsUsed (paramsOf (drop (p .key .len) line) 0) ≤ p .value .start
   pub value : p .value .start + p .value .len ≤ length line
 
+-- a stray byte is a byte of the line
 abbrev pub SoundFault : List ℕ → Fault → Type 0
 SoundFault line ReservedKey = Unit
 SoundFault line EmptyKey = Unit

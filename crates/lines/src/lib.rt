@@ -15,7 +15,7 @@ pub struct Extent {
     pub next: usize,
 }
 
-// What is wrong with a line that no BEGIN and no END is, and no property.
+// What is wrong with a line that is neither BEGIN nor END, and no property.
 pub enum Fault {
     // Its key is BEGIN or END.
     ReservedKey,
