@@ -78,13 +78,14 @@ said-reserved : {line : List ℕ} → ReservedLine line → reserved line ≡ tr
 said-reserved (begin-key {key = key} {rest = rest} a s) = reserved-in key rest (stops-end s) ∙ rw (word-alone capitals-begin a)
 said-reserved (end-key {key = key} {rest = rest} a s) = reserved-in key rest (stops-end s) ∙ rw (word-alone capitals-end a) (or-true (standsAlone beginWord key))
 
+-- a test that is not met fails
+fails : (t : Bool) → (t ≡ true → ⊥) → t ≡ false
+fails true h = absurd (h refl)
+fails false h = refl
+
 -- the tests of 17 and of the others part
 free : (line : List ℕ) → (ReservedLine line → ⊥) → reserved line ≡ false
-free line h = go (reserved line) refl
-  where
-    go : (t : Bool) → reserved line ≡ t → t ≡ false
-    go true e = absurd (h (reserved-said line e))
-    go false e = refl
+free line h = fails (reserved line) (λ e. h (reserved-said line e))
 
 not-free : {line : List ℕ} → reserved line ≡ false → ReservedLine line → ⊥
 not-free e r = false≢true (sym e ∙ said-reserved r)
@@ -207,15 +208,11 @@ module _ {line : List ℕ} (o : Other line) where
   some-bytes z = omega (arith, o .some)
 
   -- it begins with neither mark
-  no-mark : {ws : List ℕ} → Every capital ws → ((rest : List ℕ) → Marked ws rest line → ⊥) → startsWord (ws ++ colon ∷ []) line ≡ false
-  no-mark {ws} c h = go (startsWord (ws ++ colon ∷ []) line) refl
-    where
-      go : (t : Bool) → startsWord (ws ++ colon ∷ []) line ≡ t → t ≡ false
-      go true e = let m = found-mark ws line c e in absurd (h (m .0) (m .1))
-      go false e = refl
+  unmarked : {ws : List ℕ} → Every capital ws → ((rest : List ℕ) → Marked ws rest line → ⊥) → startsWord (ws ++ colon ∷ []) line ≡ false
+  unmarked {ws} c h = fails (startsWord (ws ++ colon ∷ []) line) (λ e. let m = found-mark ws line c e in h (m .0) (m .1))
 
   by-key : lineOf line ≡ byKey (keyOf line) line
-  by-key = is-other line some-bytes (no-mark capitals-begin (o .no-begin)) (no-mark capitals-end (o .no-end))
+  by-key = is-other line some-bytes (unmarked capitals-begin (o .no-begin)) (unmarked capitals-end (o .no-end))
 
 -- the fault that it is read with, its number and its place
 pub record FaultRead (at : ℕ) (line : List ℕ) (number place : ℕ) : Type 0 where
