@@ -50,6 +50,7 @@ pub fn feed(kind: &str, bytes: usize) -> String {
     match kind {
         "calendar" => calendar("\r\n", bytes),
         "lf-only" => calendar("\n", bytes),
+        "lower" => lower(bytes),
         "nested" => nested(bytes),
         "one-line" => one_line(bytes),
         "hostile" => hostile(bytes),
@@ -69,7 +70,16 @@ fn calendar(end: &str, bytes: usize) -> String {
     wrapped("VCALENDAR", bytes, end, |n| event(&mut dice, n, end, |note| format!("DESCRIPTION:{note}")))
 }
 
-/// The same, each event twice.
+/// The same, with the names of properties in lower case, as some relays send them.
+fn lower(bytes: usize) -> String {
+    let small = |line: &str| {
+        let name = line.find([':', ';']).unwrap_or(0);
+        line[..name].to_lowercase() + &line[name..]
+    };
+    calendar("\r\n", bytes).split_inclusive("\r\n").map(small).collect()
+}
+
+/// A calendar with each event twice.
 fn doubled(bytes: usize) -> String {
     let mut dice = Dice(SEED);
     let mut once = String::new();

@@ -34,6 +34,7 @@ const FEEDS: &[(&str, usize)] = &[
 pub const ROWS: &[Row] = &[
     UNFOLD,
     READ,
+    READ_LOWER,
     FOLD,
     QUOTE,
     WRITE,
@@ -88,6 +89,9 @@ const READ: Row = Row {
         numbers[0] == 0 && tables.hold(&read_component(&text).unwrap()) && numbers[3..] == tables.counts
     },
 };
+
+/// Where keys are no capital letters, each byte of them is looked at by itself.
+const READ_LOWER: Row = Row { feeds: &[("lower", 1 << 20)], ..READ };
 
 const FOLD: Row = Row {
     name: "fold",

@@ -1,8 +1,11 @@
 -- Numbers, views, keys and room by example, held against document 01, and the numbers of document 02, requests 1 and 2. Assumes nothing.
-use Prim.Native.Nat.{ℕ}
+use Prim.Native.Nat.{ℕ, zero, suc}
+use mathlib.Core.Bool.{Bool}
 use mathlib.Core.Path.{_≡_, refl}
 use mathlib.Core.List.{List, [], _∷_, map}
 use Rattle.octets.specs.Literals.{bytes}
+use Rattle.octets.specs.Choice.{pick}
+use Rattle.octets.specs.Bytes.{keyByte}
 use Rattle.octets.specs.Runs.{run}
 use Rattle.octets.specs.Words.{startsWord}
 use Rattle.octets.specs.Keys.{keyOf}
@@ -31,6 +34,16 @@ views = refl
 starts : map (λ (s : ℕ × ℕ). viewedAt (bytes "abc") (s .0) (s .1)) spans ≡ 1 ∷ 1 ∷ 3 ∷ 0 ∷ 0 ∷ 0 ∷ []
 unfolding bytes
 starts = refl
+
+-- the bytes below n that are of a class, in their order, before some others
+abbrev among : (ℕ → Bool) → ℕ → List ℕ → List ℕ
+among class zero behind = behind
+among class (suc n) behind = among class n (pick (class n) (n ∷ behind) behind)
+
+-- "Key bytes are ASCII letters, digits and `.` `,` `/` `_` `-`": of all 256 these and no others
+key-bytes : among keyByte 256 [] ≡ bytes ",-./0123456789ABCDEFGHIJKLMNOPQRSTUVWXYZ_abcdefghijklmnopqrstuvwxyz"
+unfolding bytes
+key-bytes = refl
 
 -- "refused if the line starts with BEGIN or END in any case and then has `:`, `;` or its end. Otherwise it is the longest run of key bytes."
 keys : map keyOf (bytes "K:v" ∷ bytes "azAZ09.,/_-;" ∷ bytes " K" ∷ bytes "BEGIN" ∷ bytes "bEgIn;X" ∷ bytes "End:" ∷ bytes "BEGINNING" ∷ bytes "END X" ∷ [])

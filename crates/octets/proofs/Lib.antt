@@ -7,7 +7,6 @@ pub mod Hits
 pub mod Numbers
 pub mod Words
 pub mod Every
-pub mod KeyTable
 pub mod Keys
 pub mod Answers
 mod Examples

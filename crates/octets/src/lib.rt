@@ -1,12 +1,11 @@
 // Bytes: their classes, keys, equal parts, words in any case, views, and the numbers that every answer is made of.
 ghost use mathlib.Core.Path.{_≡_};
-ghost use mathlib.Core.Bool.{Bool, true, false};
 ghost use mathlib.Core.List.{_∷_, [], _++_};
 ghost use Prim.Native.Nat.{_+_, _≤_, min};
 ghost use lib.ListN.{length, getD, take, drop};
 ghost use lib.Dec.{leb, ltb};
 ghost use denote.Ref.{ptr};
-ghost use Rattle.octets.specs.Bytes.{capital, common, keyByte, lowered, other};
+ghost use Rattle.octets.specs.Bytes.{keyByte, lowered, other};
 ghost use Rattle.octets.specs.Laid.{laid, counted, Lays};
 ghost use Rattle.octets.specs.Answers.{roomAnswer};
 ghost use Rattle.octets.specs.Runs.{run};
@@ -17,7 +16,6 @@ ghost use Rattle.octets.specs.Keys.{keyOf, opensReserved, reserved, stan
 ghost use Rattle.octets.specs.Views.{viewed, viewedAt, bytesOn};
 
 mod eights;
-mod key_bytes;
 
 // The most bytes of a feed, of a line to fold, of a value to quote and of the writer's output.
 pub const LONGEST: usize = 1_048_576;
@@ -98,43 +96,29 @@ fn skip_capitals(line: &[u8]) -> usize
     i
 }
 
-// Whether what ends most keys stands at i: one of : ; = or the end of the line.
-fn ends_key(line: &[u8], i: usize) -> bool
-    ensures { λ r. ⌜ (r ≡ true → run keyByte (drop i (now (line .entry))) ≡ 0) ⌝ }
+// Whether a byte is a letter, a digit or one of . , / _ -
+fn is_key_byte(b: u8) -> bool
+    ensures { λ r. ⌜ r ≡ keyByte b ⌝ }
 {
-    if line.len() <= i {
-        return true;
-    }
-    let b = line[i];
-    (b == b':') | ((b == b';') | (b == b'='))
+    let capital = (b'A' <= b) & (b <= b'Z');
+    let small = (b'a' <= b) & (b <= b'z');
+    let digit = (b'0' <= b) & (b <= b'9');
+    let mark = (b == b'.') | (b == b',') | (b == b'/') | (b == b'_') | (b == b'-');
+    capital | small | digit | mark
 }
 
-// The run of key bytes of which the first `from` are passed over, one byte after the other.
-fn key_run_on(line: &[u8], from: usize) -> usize
-    requires { ⌜ (from ≤ length (now line)) × (from + run keyByte (drop from (now line)) ≡ run keyByte (now line)) ⌝ }
+// The length of the longest run of key bytes at the front.
+pub fn key_run(line: &[u8]) -> usize
     ensures { λ r. ⌜ r ≡ run keyByte (now (line .entry)) ⌝ }
 {
-    let table = key_bytes::KEY_BYTES;
-    let mut i = from;
+    let mut i = skip_capitals(line);
     while i < line.len() {
-        let b = line[i] as usize;
-        if !table[b] {
+        if !is_key_byte(line[i]) {
             return i;
         }
         i += 1;
     }
     i
-}
-
-// The length of the longest run of key bytes at the front. Where a key ends in the usual way the table is not laid out.
-pub fn key_run(line: &[u8]) -> usize
-    ensures { λ r. ⌜ r ≡ run keyByte (now (line .entry)) ⌝ }
-{
-    let i = skip_capitals(line);
-    if ends_key(line, i) {
-        return i;
-    }
-    key_run_on(line, i)
 }
 
 // A class of bytes that eight are asked for at once.
