@@ -55,6 +55,22 @@ keyed =
     case "a key" (hasKey (bytes "K:v") (1 ∷ []))
     -- "Key bytes are ASCII letters, digits and `.` `,` `/` `_` `-`"
     ∷ case "all kinds of key bytes" (hasKey (bytes "azAZ09.,/_-;") (11 ∷ []))
+    -- the same, all of them
+    ∷ case "every key byte" (hasKey (bytes "ABCDEFGHIJKLMNOPQRSTUVWXYZabcdefghijklmnopqrstuvwxyz0123456789.,/_-:") (67 ∷ []))
+    -- no byte beside a range is one
+    ∷ case "the byte before the comma" (hasKey (bytes "K+") (1 ∷ []))
+    -- the same
+    ∷ case "the byte behind 9" (hasKey (bytes "K:") (1 ∷ []))
+    -- the same
+    ∷ case "the byte before A" (hasKey (bytes "K@") (1 ∷ []))
+    -- the same
+    ∷ case "the byte behind Z" (hasKey (bytes "K[") (1 ∷ []))
+    -- the same
+    ∷ case "the byte before the underscore" (hasKey (bytes "K^") (1 ∷ []))
+    -- the same
+    ∷ case "the byte before a" (hasKey (bytes "K`") (1 ∷ []))
+    -- the same
+    ∷ case "the byte behind z" (hasKey (bytes "K{") (1 ∷ []))
     -- the run may be empty
     ∷ case "no key byte" (hasKey (bytes " K") (0 ∷ []))
     -- the same
