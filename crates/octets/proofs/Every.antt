@@ -12,7 +12,7 @@ abbrev pub all : (ℕ → Bool) → ℕ → Bool
 all test zero = true
 all test (suc n) = pick (test n) (all test n) false
 
-pub every : (test : ℕ → Bool) (n : ℕ) → all test n ≡ true → (k : ℕ) → k < n → test k ≡ true
+every : (test : ℕ → Bool) (n : ℕ) → all test n ≡ true → (k : ℕ) → k < n → test k ≡ true
 every test zero e k h = absurd (not-suc-le-zero h)
 every test (suc n) e k h = go (test n) refl e (eqb k n) refl (every test n)
   where
