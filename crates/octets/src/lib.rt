@@ -97,14 +97,15 @@ fn skip_capitals(line: &[u8]) -> usize
 }
 
 // Whether a byte is a letter, a digit or one of . , / _ -
+// The brackets are the definition's. With them the compiler joins the ranges that touch.
 fn is_key_byte(b: u8) -> bool
     ensures { λ r. ⌜ r ≡ keyByte b ⌝ }
 {
     let capital = (b'A' <= b) & (b <= b'Z');
     let small = (b'a' <= b) & (b <= b'z');
     let digit = (b'0' <= b) & (b <= b'9');
-    let mark = (b == b'.') | (b == b',') | (b == b'/') | (b == b'_') | (b == b'-');
-    capital | small | digit | mark
+    let mark = (b == b'.') | ((b == b',') | ((b == b'/') | ((b == b'_') | (b == b'-'))));
+    capital | (small | (digit | mark))
 }
 
 // The length of the longest run of key bytes at the front.
