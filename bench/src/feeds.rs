@@ -70,7 +70,7 @@ fn calendar(end: &str, bytes: usize) -> String {
     wrapped("VCALENDAR", bytes, end, |n| event(&mut dice, n, end, |note| format!("DESCRIPTION:{note}")))
 }
 
-/// The same, with the names of properties in lower case, as some relays send them.
+/// The same, with the names of properties, BEGIN and END in lower case, as some relays send them.
 fn lower(bytes: usize) -> String {
     let small = |line: &str| {
         let name = line.find([':', ';']).unwrap_or(0);
