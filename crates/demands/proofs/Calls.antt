@@ -18,7 +18,7 @@ use Rattle.parameters.proofs.parameter.Kinds as parameter-kinds
 use Rattle.parameters.proofs.parameter.Reads as parameter-reads
 use Rattle.folding.specs.Strict.{strict}
 use Rattle.folding.specs.Repository.{repository}
-use Rattle.folding.specs.Answers.{foldAnswer, foldOut}
+use Rattle.folding.specs.Answers.{strictLine, repositoryLine, foldAnswer, foldOut}
 use Rattle.folding.proofs.fold_strict.Kinds as fold-strict-kinds
 use Rattle.folding.proofs.fold_strict.Reads as fold-strict-reads
 use Rattle.folding.proofs.fold_line.Kinds as fold-line-kinds
@@ -92,8 +92,8 @@ foldStrict =
     record { lifetimes = 2; parameters = fold-strict-kinds.ps; result = fold-strict-kinds.r; asked = fold-strict-reads.Asked; promised = fold-strict-reads.Learnt }
 
 pub fold-strict-is : Defined foldStrict (λ κs r. r)
-    (λ κs a. foldAnswer strict (now (a .0)) (length (now (a .1 .0))))
-    (λ κs a. (tt, (foldOut strict (now (a .0)) (now (a .1 .0)), tt)))
+    (λ κs a. foldAnswer strictLine strict (now (a .0)) (length (now (a .1 .0))))
+    (λ κs a. (tt, (foldOut strictLine strict (now (a .0)) (now (a .1 .0)), tt)))
 fold-strict-is = record {
   asks-nothing = λ κs a. tt;
   only = λ κs a r x p. record { result-is = p .0; exit-is = ap (λ (out : List ℕ). (tt, (out, tt))) (p .1) };
@@ -108,8 +108,8 @@ foldLine =
     record { lifetimes = 2; parameters = fold-line-kinds.ps; result = fold-line-kinds.r; asked = fold-line-reads.Asked; promised = fold-line-reads.Learnt }
 
 pub fold-line-is : Defined foldLine (λ κs r. r)
-    (λ κs a. foldAnswer repository (now (a .0)) (length (now (a .1 .0))))
-    (λ κs a. (tt, (foldOut repository (now (a .0)) (now (a .1 .0)), tt)))
+    (λ κs a. foldAnswer repositoryLine repository (now (a .0)) (length (now (a .1 .0))))
+    (λ κs a. (tt, (foldOut repositoryLine repository (now (a .0)) (now (a .1 .0)), tt)))
 fold-line-is = record {
   asks-nothing = λ κs a. tt;
   only = λ κs a r x p. record { result-is = p .0; exit-is = ap (λ (out : List ℕ). (tt, (out, tt))) (p .1) };

@@ -7,10 +7,11 @@ use Rattle.unfolding.specs.Unfold.{unfoldedAfter}
 use Rattle.parameters.specs.Values.{quotedLen, furtherAfter, formOf}
 use Rattle.parameters.specs.Parameter.{paramOf, frontOf}
 use Rattle.folding.specs.Pieces.{behindBreaks}
-use Rattle.folding.specs.Strict.{units, foldedUnits, packed}
+use Rattle.characters.specs.Units.{unitsFrom}
+use Rattle.folding.specs.Strict.{foldedUnits, packed}
 use Rattle.folding.specs.Repository.{cuts}
 use Rattle.demands.specs.Examples.{holds, allHold, starred}
 
 pub all-starred : allHold starred ≡ true
-unfolding holds allHold run sameBytes startsWord unfoldedAfter quotedLen furtherAfter formOf paramOf frontOf behindBreaks units foldedUnits packed cuts
+unfolding holds allHold run sameBytes startsWord unfoldedAfter quotedLen furtherAfter formOf paramOf frontOf behindBreaks unitsFrom foldedUnits packed cuts
 all-starred = refl

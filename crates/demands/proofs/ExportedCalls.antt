@@ -7,7 +7,7 @@ use lib.ListN.{length}
 use denote.Ref.{now}
 use Rattle.folding.specs.Strict.{strict}
 use Rattle.folding.specs.Repository.{repository}
-use Rattle.folding.specs.Answers.{foldAnswer, foldOut}
+use Rattle.folding.specs.Answers.{strictLine, repositoryLine, foldAnswer, foldOut}
 use Rattle.quoting.specs.Answers.{quoteAnswer, quoteOut}
 use Rattle.escapes.specs.Answers.{textAnswer, textOut, valueAnswer, valueOut}
 use Rattle.tables.specs.Lent.{Lent}
@@ -67,7 +67,7 @@ hawniretemFoldStrict =
 
 pub hawniretem-fold-strict-is : Defined hawniretemFoldStrict (λ κs r. r)
     (λ κs a. tt)
-    (λ κs a. (tt, (foldOut strict (now (a .0)) (now (a .1 .0)), (outputNumbers (foldAnswer strict (now (a .0)) (length (now (a .1 .0)))), tt))))
+    (λ κs a. (tt, (foldOut strictLine strict (now (a .0)) (now (a .1 .0)), (outputNumbers (foldAnswer strictLine strict (now (a .0)) (length (now (a .1 .0)))), tt))))
 hawniretem-fold-strict-is = record {
   asks-nothing = λ κs a. tt;
   only = λ κs a r x p. record { result-is = refl; exit-is = ap₂ (λ (out numbers : List ℕ). (tt, (out, (numbers, tt)))) (p .1) (p .0) };
@@ -83,7 +83,7 @@ hawniretemFoldLine =
 
 pub hawniretem-fold-line-is : Defined hawniretemFoldLine (λ κs r. r)
     (λ κs a. tt)
-    (λ κs a. (tt, (foldOut repository (now (a .0)) (now (a .1 .0)), (outputNumbers (foldAnswer repository (now (a .0)) (length (now (a .1 .0)))), tt))))
+    (λ κs a. (tt, (foldOut repositoryLine repository (now (a .0)) (now (a .1 .0)), (outputNumbers (foldAnswer repositoryLine repository (now (a .0)) (length (now (a .1 .0)))), tt))))
 hawniretem-fold-line-is = record {
   asks-nothing = λ κs a. tt;
   only = λ κs a r x p. record { result-is = refl; exit-is = ap₂ (λ (out numbers : List ℕ). (tt, (out, (numbers, tt)))) (p .1) (p .0) };

@@ -13,9 +13,10 @@ use Rattle.octets.specs.Choice.{pick}
 use Rattle.octets.specs.Views.{viewed}
 use Rattle.octets.specs.Runs.{only}
 use Rattle.octets.specs.Answers.{longest, deepest, done, tooLong, noOutRoom, output}
+use Rattle.octets.specs.All.{All}
 use Rattle.octets.specs.declared.Output.{Output}
 use Rattle.octets.proofs.Bools.{both}
-use Rattle.folding.specs.Answers.{ascii}
+use Rattle.characters.specs.Utf8.{isUtf8}
 use Rattle.tables.specs.Rows.{noParent, componentAt}
 use Rattle.tables.specs.TableRule.{byTableRule}
 use Rattle.tables.specs.Lent.{Lent, componentsIn, propertiesIn, parametersIn, brokenIn, treesIn, treeIn}
@@ -25,11 +26,11 @@ use Rattle.tables.specs.declared.PropertyRow.{PropertyRow}
 use Rattle.tables.specs.declared.ParameterRow.{ParameterRow}
 use Rattle.tables.specs.declared.Found.{Found}
 use Rattle.tables.specs.declared.Found.the-variants.{Nothing, At}
-use Rattle.writable.specs.WritingRule.{nameFits, keyFits, noBreak, valueAscii, verdict, componentVerdict, propertyVerdict, parameterVerdict, judgedBy, judgedFrom, judgedIn}
+use Rattle.writable.specs.WritingRule.{nameFits, keyFits, noBreak, valueUtf8, verdict, componentVerdict, propertyVerdict, parameterVerdict, judgedBy, judgedFrom, judgedIn}
 use Rattle.writable.specs.declared.Verdict.{Verdict}
 use Rattle.writable.specs.declared.Judged.{Judged}
 use Rattle.writing.specs.Answers.{writtenIn, notWritten, byWritingRule, byLength, writeAnswer}
-use Rattle.demands.specs.Returning.{All, fitParameter, FitProperty, Fit, Shallow}
+use Rattle.demands.specs.Returning.{fitParameter, FitProperty, Fit, Shallow}
 
 -- ---- rows that are all so, and what is gathered of them
 
@@ -60,14 +61,15 @@ gathered {A} {R} ownerOf before so kept step end e owner row (x ∷ xs) a =
 
 -- ---- tables that can be written: every row is fine
 
-fine-fits : (fits plain : Bool) → verdict fits plain ≡ Verdict.Fine → fits ≡ true
-fine-fits true plain e = refl
-fine-fits false plain e = cc
+fine-fits : (fits whole : Bool) → verdict fits whole ≡ Verdict.Fine → (fits ≡ true) × (whole ≡ true)
+fine-fits true true e = (refl, refl)
+fine-fits true false e = (refl, cc)
+fine-fits false whole e = (cc, cc)
 
 judged-writable : (v : Verdict) (row : ℕ) (rest : Judged) → judgedBy v row rest ≡ Judged.Writable → (v ≡ Verdict.Fine) × (rest ≡ Judged.Writable)
 judged-writable Verdict.Fine row rest e = (refl, e)
 judged-writable Verdict.Unwritable row rest e = (cc, cc)
-judged-writable Verdict.NotAscii row rest e = (cc, cc)
+judged-writable Verdict.NotUtf8 row rest e = (cc, cc)
 
 -- so are the rows of one table, and those behind it
 all-fine : {A : Type 0} (verdictOf : A → Verdict) (row : ℕ) (xs : List A) (rest : Judged) → judgedFrom verdictOf row xs rest ≡ Judged.Writable
@@ -111,23 +113,31 @@ forestIn b = forest (b .text) (componentsIn (b .components)) (propertiesIn (b .p
 abbrev grownIn : Lent → ℕ → ℕ → ComponentRow → Trees → Trees
 grownIn b level = grown (b .text) (componentsIn (b .components)) (propertiesIn (b .properties)) (parametersIn (b .parameters)) (forestIn b level)
 
-fit-parameter : (text : List ℕ) (p : ParameterRow) → FineParameter text p → fitParameter (parameterOf text p) ≡ true
-fit-parameter text p e = fine-fits (fitParameter (parameterOf text p)) (valueAscii (valueOf text p)) e
+fit-parameter : (text : List ℕ) (p : ParameterRow) → FineParameter text p → (fitParameter (parameterOf text p) ≡ true) × (valueUtf8 (valueOf text p) ≡ true)
+fit-parameter text p e = fine-fits (fitParameter (parameterOf text p)) (valueUtf8 (valueOf text p)) e
 
 module _ (b : Lent) (fine : Fine b) where
-  fit-parameters : (property : ℕ) → All (λ (q : Parameter). fitParameter q ≡ true) (parametersOf (b .text) (parametersIn (b .parameters)) property)
+  fit-parameters : (so : Parameter → Type 0) → ((p : ParameterRow) → FineParameter (b .text) p → so (parameterOf (b .text) p))
+      → (property : ℕ) → All so (parametersOf (b .text) (parametersIn (b .parameters)) property)
   unfolding All
-  fit-parameters property =
+  fit-parameters so each property =
       gathered (λ (p : ParameterRow). p .property) (λ row p rest. parameterOf (b .text) p ∷ rest)
-      (FineParameter (b .text)) (All (λ (q : Parameter). fitParameter q ≡ true))
-      (λ row p rest e k. (fit-parameter (b .text) p e, k)) [] tt property 0 (parametersIn (b .parameters)) (fine .of-parameters)
+      (FineParameter (b .text)) (All so)
+      (λ row p rest e k. (each p e, k)) [] tt property 0 (parametersIn (b .parameters)) (fine .of-parameters)
 
   fit-property : (row : ℕ) (p : PropertyRow) → FineProperty (b .text) p → FitProperty (propertyOf (b .text) (parametersIn (b .parameters)) row p)
   fit-property row p e =
       let key = viewed (b .text) (p .«key_start») (p .«key_len») in
       let value = viewed (b .text) (p .«value_start») (p .«value_len») in
-      let t = both (keyFits key) (only noBreak value) (fine-fits (keyFits key && only noBreak value) (only ascii value) e) in
-      record { key = t .0; value = t .1; parameters = fit-parameters row }
+      let f = fine-fits (keyFits key && only noBreak value) (isUtf8 value) e in
+      let t = both (keyFits key) (only noBreak value) (f .0) in
+      record {
+        key = t .0;
+        value = t .1;
+        parameters = fit-parameters (λ (q : Parameter). fitParameter q ≡ true) (λ q h. fit-parameter (b .text) q h .0) row;
+        utf8 = f .1;
+        parameters-utf8 = fit-parameters (λ (q : Parameter). valueUtf8 (q .value) ≡ true) (λ q h. fit-parameter (b .text) q h .1) row;
+      }
 
   fit-properties : (component : ℕ) → All FitProperty (propertiesOf (b .text) (propertiesIn (b .properties)) (parametersIn (b .parameters)) component)
   unfolding All
@@ -141,7 +151,7 @@ module _ (b : Lent) (fine : Fine b) where
       → FineComponent (b .text) c → Fit rest → Fit (grownIn b level row c rest)
   unfolding Fit
   fit-grown level below row c rest e k =
-      (fine-fits (nameFits (viewed (b .text) (c .«name_start») (c .«name_len»))) true e, fit-properties row, go (eqb row noParent), k)
+      (fine-fits (nameFits (viewed (b .text) (c .«name_start») (c .«name_len»))) true e .0, fit-properties row, go (eqb row noParent), k)
     where
       go : (t : Bool) → Fit (pick t none (forestIn b level row))
       go true = tt
@@ -209,7 +219,7 @@ by-table-rule (At row) next e = absurd (omega arith)
 by-writing-rule : (j : Judged) (next : Output) → byWritingRule j next .answer ≡ done → (j ≡ Judged.Writable) × (next .answer ≡ done)
 by-writing-rule Judged.Writable next e = (refl, e)
 by-writing-rule (Judged.Unwritable row) next e = absurd (omega arith)
-by-writing-rule (Judged.NotAscii row) next e = absurd (omega arith)
+by-writing-rule (Judged.NotUtf8 row) next e = absurd (omega arith)
 
 by-length : (needed room : ℕ) → byLength needed room .answer ≡ done → (needed ≤ longest) × (needed ≤ room)
 by-length needed room e = go (leb needed longest) refl (leb needed room) refl e

@@ -12,6 +12,7 @@ use lib.Dec.{eqb}
 use borrow.Author.Tests.{eqb-true, eqb-false, ne-eqb}
 use Rattle.octets.specs.Choice.{pick}
 use Rattle.octets.specs.Answers.{noTextRoom, noRoom, strayByte}
+use Rattle.octets.specs.All.{All}
 use Rattle.unfolding.specs.Unfold.{unfolded}
 use Rattle.lines.specs.Split.{Placed, linesFrom}
 use Rattle.lines.specs.Rule.{lineOf}
@@ -27,7 +28,6 @@ use Rattle.reading.specs.Answers.{numberOf, placeOf, refusal}
 use Rattle.reading.specs.Lent.{roomIn, readInto}
 use Rattle.reading.specs.declared.Reading.{Reading}
 use Rattle.demands.specs.Readable.{Readable}
-use Rattle.demands.specs.Returning.{All}
 use Rattle.demands.specs.Grammar.{line, Lines, noRow, Rows, noRows, openedRow, withComponent, Body, no-line, empty-line, a-property, a-component, Calendar}
 use Rattle.demands.specs.LineFaults.{Stray, StrayAt, Faulty, reserved-key, empty-key, stray-byte}
 use Rattle.demands.specs.GrammarRefusals.{Begun, in-this, in-another, Refuses, bad-begin, too-deep, none-open, other-name, outside, no-property, Broken, at-line, unclosed, no-component}

@@ -14,6 +14,7 @@ pub mod Quotes
 pub mod Texts
 pub mod Scanning
 pub mod Lining
+pub mod Characters
 pub mod Standing
 pub mod Shown
 pub mod Regrowing

@@ -2,27 +2,29 @@
 -- Assumes nothing.
 use mathlib.Core.Path.{_≡_, refl, sym, ap, _∙_}
 use mathlib.Core.Bool.{true, false}
-use mathlib.Core.List.{List, [], _∷_, _++_, map, append-assoc}
+use mathlib.Core.List.{List, [], _∷_, _++_, map, flatten, append-assoc}
 use Prim.Native.Nat.{ℕ, _+_, _-_, _≤_, zero-le}
 use native.Mathlib.Omega.{arith}
-use lib.ListN.{length, getD, length-append}
+use lib.ListN.{length, getD, take, length-append}
 use lib.Seq.{take-append-seam, drop-append-add, drop-at, getD-append-seam}
-use borrow.Author.Tests.{lt-ltb, eq-eqb}
+use borrow.Author.Tests.{lt-ltb, le-leb, eq-eqb}
 use Rattle.octets.specs.Bytes.{cr, lf, blank, other}
 use Rattle.octets.specs.Runs.{run}
+use Rattle.octets.specs.All.{All}
 use Rattle.octets.proofs.Bools.{both}
-use Rattle.octets.proofs.Runs.{through, whole-wider}
+use Rattle.octets.proofs.Runs.{through, whole-wider, all-of}
 use Rattle.unfolding.specs.Unfold.{unfolded, unfoldedAfter}
 use Rattle.unfolding.proofs.Laws.{Unbroken, line}
-use Rattle.folding.specs.Strict.{first, units, breakFor, leftFor, foldedUnits, strict}
+use Rattle.characters.specs.Units.{tails, units}
+use Rattle.characters.proofs.Units.{units-front, unit-length, unit-small, units-flatten}
+use Rattle.folding.specs.Strict.{first, breakFor, leftFor, foldedUnits, strict}
 use Rattle.lines.specs.Split.{toBreak, contentLen, lineLen, linesAfter, linesFrom}
 use Rattle.lines.proofs.Split.{first-line}
 use Rattle.tables.specs.Trees.{Property, Trees, none, tree}
 use Rattle.writable.specs.WritingRule.{noBreak}
 use Rattle.printing.specs.Lines.{closedLine, beginLine, endLine, propertyLine, propertyLines, written}
-use Rattle.demands.specs.Returning.{All, linesOf, foldedLines, plainLines, placedFrom, Plain}
+use Rattle.demands.specs.Returning.{linesOf, foldedLines, plainLines, placedFrom, Plain}
 use Rattle.demands.proofs.Folds.{strict-unfolds}
-use Rattle.demands.proofs.Scanning.{all-of}
 
 -- ---- what is written is lines, folded
 
@@ -56,10 +58,10 @@ no-lf x h = both (other cr x) _ h .1
 unbroken-line : {l : List ℕ} → Plain l → Unbroken l
 unbroken-line {l} p = whole-wider noBreak (other lf) no-lf l (all-of noBreak l (p .whole))
 
--- folded or not, a line begins with its first byte
+-- folded or not, a line begins with its first byte, whose character fits
 front-kept : (x : ℕ) (l : List ℕ) (rest : List ℕ) → getD (closedLine (x ∷ l) ++ rest) 0 0 ≡ x
-unfolding units foldedUnits
-front-kept x l rest = refl
+unfolding foldedUnits
+front-kept x l rest = rw (units-front x l, le-leb (length (x ∷ take (tails x l) l)) first (omega (arith, unit-length x l, unit-small x l))) refl
 
 -- so no blank follows a break
 no-blank : (ls : List (List ℕ)) → All Plain ls → blank (getD (foldedLines ls) 0 0) ≡ false
@@ -122,12 +124,15 @@ splits-all ls all = lines-after 0 ls all
 
 -- ---- folding makes nothing shorter
 
-folded-longer : (left : ℕ) (xs : List ℕ) → length xs ≤ length (foldedUnits left (units xs))
-unfolding units foldedUnits
-folded-longer left [] = zero-le
-folded-longer left (x ∷ xs) =
-    let r = foldedUnits (leftFor left (x ∷ []) - 1) (units xs) in
-    omega (arith, length-append (breakFor left (x ∷ [])) (x ∷ r), folded-longer (leftFor left (x ∷ []) - 1) xs)
+units-longer : (left : ℕ) (us : List (List ℕ)) → length (flatten us) ≤ length (foldedUnits left us)
+unfolding flatten foldedUnits
+units-longer left [] = zero-le
+units-longer left (u ∷ us) =
+    let r = foldedUnits (leftFor left u - length u) us in
+    omega (arith, length-append (breakFor left u) (u ++ r), length-append u r, length-append u (flatten us), units-longer (leftFor left u - length u) us)
+
+folded-longer : (line : List ℕ) → length line ≤ length (strict line)
+folded-longer line = rw (units-flatten line) at (units-longer first (units line))
 
 -- the lines take no more bytes than what was written
 pub shorter : (ls : List (List ℕ)) → length (plainLines ls) ≤ length (foldedLines ls)
@@ -139,6 +144,6 @@ shorter (l ∷ ls) =
       length-append l (cr ∷ lf ∷ plainLines ls),
       length-append (closedLine l) (foldedLines ls),
       length-append (strict l) (cr ∷ lf ∷ []),
-      folded-longer first l,
+      folded-longer l,
       shorter ls,
     )

@@ -10,6 +10,7 @@ use borrow.Author.Tests.{lt-ltb, le-leb}
 use Rattle.octets.specs.Answers.{deepest}
 use Rattle.octets.specs.Bytes.{cr, lf}
 use Rattle.octets.specs.Views.{viewed}
+use Rattle.octets.specs.All.{All}
 use Rattle.octets.proofs.Words.{same-refl}
 use Rattle.parameters.specs.Parameters.{paramsAfter}
 use Rattle.parameters.specs.Values.{span}
@@ -30,7 +31,7 @@ use Rattle.nesting.specs.declared.Check.{Check}
 use Rattle.nesting.specs.declared.Entry.{Entry}
 use Rattle.writable.specs.WritingRule.{nameFits}
 use Rattle.printing.specs.Lines.{beginLine, endLine, propertyLine}
-use Rattle.demands.specs.Returning.{All, linesOf, plainLines, placedFrom, FitProperty, Fit, Shallow, Scanned, Nests}
+use Rattle.demands.specs.Returning.{linesOf, plainLines, placedFrom, FitProperty, Fit, Shallow, Scanned, Nests}
 use Rattle.demands.proofs.Scanning.{begin-line, end-line, scanned}
 use Rattle.demands.proofs.RowsFit.{its-property}
 use Rattle.demands.proofs.Shown.{propertyWith, Parameters, Properties, Rows, component-rows, property-rows, parameter-rows}

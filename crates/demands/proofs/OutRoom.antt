@@ -10,12 +10,15 @@ use lib.ListN.{length, drop}
 use lib.Dec.{eqb, leb}
 use borrow.Author.Tests.{le-leb, lt-leb, ne-eqb, leb-true, leb-false, eqb-true, eqb-false}
 use Rattle.octets.specs.Choice.{pick}
-use Rattle.octets.specs.Bytes.{lf, other}
+use Rattle.octets.specs.Bytes.{lf, other, ascii}
 use Rattle.octets.specs.Runs.{run, only}
-use Rattle.octets.specs.Answers.{longest, done, tooLong, hasBreak, notAscii, noOutRoom, badTable, unwritable, badEscape, output, roomAnswer, outAfter}
+use Rattle.octets.specs.Answers.{longest, done, tooLong, hasBreak, notAscii, notUtf8, noOutRoom, badTable, unwritable, badEscape, output, roomAnswer, outAfter}
 use Rattle.octets.specs.declared.Output.{Output}
 use Rattle.octets.proofs.Laid.{whole}
-use Rattle.folding.specs.Answers.{ascii, lineAnswer, foldAnswer}
+use Rattle.characters.specs.Utf8.{utf8Run}
+use Rattle.folding.specs.Strict.{strict}
+use Rattle.folding.specs.Repository.{repository}
+use Rattle.folding.specs.Answers.{lineAnswer, strictLine, repositoryLine, foldAnswer}
 use Rattle.quoting.specs.Quoting.{quoted}
 use Rattle.quoting.specs.Answers.{quoteAnswer}
 use Rattle.escapes.specs.Text.{fine, escapesFine, textOf, asValue}
@@ -124,25 +127,32 @@ module _ (Fine : Type 0) (bytes : List ℕ) (answer : ℕ → Output) where
 
 -- ---- both folds
 
-module _ (line : List ℕ) where
-  -- a line that is refused whatever the fold
-  line-refused : (lineAnswer line .answer ≡ done → ⊥) → Fixed (lineAnswer line)
-  line-refused n = by (leb (length line) longest) (only (other lf) line) (only ascii line) n
-    where
-      by : (s t u : Bool)
-          → (pick s (pick t (pick u (output done 0 0) (output notAscii (run ascii line) 0)) (output hasBreak (run (other lf) line) 0)) (output tooLong 0 0) .answer ≡ done → ⊥)
-          → Fixed (pick s (pick t (pick u (output done 0 0) (output notAscii (run ascii line) 0)) (output hasBreak (run (other lf) line) 0)) (output tooLong 0 0))
-      by true true true n = absurd (n refl)
-      by true true false n = fixed notAscii (run ascii line) n (λ e. omega arith)
-      by true false u n = fixed hasBreak (run (other lf) line) n (λ e. omega arith)
-      by false t u n = fixed tooLong 0 n (λ e. omega arith)
+-- a line that is refused, for its length or for its bytes
+line-refused : (number sound : ℕ) (line : List ℕ) → (number ≡ noOutRoom → ⊥) → (lineAnswer number sound line .answer ≡ done → ⊥) → Fixed (lineAnswer number sound line)
+line-refused number sound line other-than n = by (leb (length line) longest) (only (other lf) line) (leb (length line) sound) n
+  where
+    bytes : Bool → Bool → Output
+    bytes t u = pick t (pick u (output done 0 0) (output number sound 0)) (output hasBreak (run (other lf) line) 0)
 
-  pub fold-room : (fold : List ℕ → List ℕ) → RoomDecides (lineAnswer line .answer ≡ done) (fold line) (foldAnswer fold line)
-  fold-room fold = room-decides (lineAnswer line .answer ≡ done) (fold line) (foldAnswer fold line) (go (eqb (lineAnswer line .answer) done) refl)
+    by : (s t u : Bool) → (pick s (bytes t u) (output tooLong 0 0) .answer ≡ done → ⊥) → Fixed (pick s (bytes t u) (output tooLong 0 0))
+    by true true true n = absurd (n refl)
+    by true true false n = fixed number sound n other-than
+    by true false u n = fixed hasBreak (run (other lf) line) n (λ e. omega arith)
+    by false t u n = fixed tooLong 0 n (λ e. omega arith)
+
+module _ (checked : List ℕ → Output) (fold : List ℕ → List ℕ) (line : List ℕ) (always : (checked line .answer ≡ done → ⊥) → Fixed (checked line)) where
+  fold-room : RoomDecides (checked line .answer ≡ done) (fold line) (foldAnswer checked fold line)
+  fold-room = room-decides (checked line .answer ≡ done) (fold line) (foldAnswer checked fold line) (go (eqb (checked line .answer) done) refl)
     where
-      go : (t : Bool) → eqb (lineAnswer line .answer) done ≡ t → ByRoom (lineAnswer line .answer ≡ done) (length (fold line)) (foldAnswer fold line)
+      go : (t : Bool) → eqb (checked line .answer) done ≡ t → ByRoom (checked line .answer ≡ done) (length (fold line)) (foldAnswer checked fold line)
       go true h = decided (eqb-true _ _ h) (λ room. rw h)
-      go false h = refused (lineAnswer line) (line-refused (eqb-false _ _ h)) (eqb-false _ _ h) (λ room. rw h)
+      go false h = refused (checked line) (always (eqb-false _ _ h)) (eqb-false _ _ h) (λ room. rw h)
+
+pub strict-room : (line : List ℕ) → RoomDecides (strictLine line .answer ≡ done) (strict line) (foldAnswer strictLine strict line)
+strict-room line = fold-room strictLine strict line (line-refused notUtf8 (utf8Run line) line (λ e. omega arith))
+
+pub repository-room : (line : List ℕ) → RoomDecides (repositoryLine line .answer ≡ done) (repository line) (foldAnswer repositoryLine repository line)
+repository-room line = fold-room repositoryLine repository line (line-refused notAscii (run ascii line) line (λ e. omega arith))
 
 -- ---- quoting
 
@@ -206,8 +216,8 @@ module _ (b : Lent) where
       by-rule x (Judged.Unwritable row) y =
           refused (output unwritable row 0) (fixed unwritable row (λ e. omega arith) (λ e. omega arith))
           (λ f. let z : _≡_ {A = ℕ} 0 1 = cc (y, f .writing-rule) in omega arith) (answers x y)
-      by-rule x (Judged.NotAscii row) y =
-          refused (output notAscii row 0) (fixed notAscii row (λ e. omega arith) (λ e. omega arith))
+      by-rule x (Judged.NotUtf8 row) y =
+          refused (output notUtf8 row 0) (fixed notUtf8 row (λ e. omega arith) (λ e. omega arith))
           (λ f. let z : _≡_ {A = ℕ} 0 1 = cc (y, f .writing-rule) in omega arith) (answers x y)
 
       by-table : (f : Found) → brokenIn b ≡ f → ByRoom (FitTables b) (length (writtenIn b)) (writeAnswer b)

@@ -5,25 +5,30 @@
 -- what it leaves in b; `toldOf` cuts that to what the numbers tell of; `treesIn b` are the trees that tables stand for.
 -- Assumes nothing.
 use mathlib.Core.Path.{_≡_}
-use mathlib.Core.Bool.{true}
+use mathlib.Core.Bool.{true, _&&_}
 use mathlib.Core.List.{List, [], _++_}
 use mathlib.Core.Logic.{_↔_}
 use Prim.Native.Nat.{ℕ, _≤_, _<_}
 use lib.ListN.{length, drop}
-use Rattle.octets.specs.Bytes.{other}
-use Rattle.octets.specs.Answers.{longest, done, noTextRoom, noRoom, badEscape, strayByte, output}
+use Rattle.octets.specs.Bytes.{other, keyByte, ascii}
+use Rattle.octets.specs.Runs.{only}
+use Rattle.octets.specs.All.{All}
+use Rattle.octets.specs.Answers.{longest, done, noTextRoom, noRoom, badEscape, strayByte, notUtf8, output}
 use Rattle.unfolding.specs.Unfold.{unfolded}
 use Rattle.unfolding.proofs.Laws.{Unbroken}
 use Rattle.tables.specs.Lent.{Lent, componentsIn, brokenIn, treesIn, treeIn}
+use Rattle.tables.specs.Trees.{Parameter, Property}
 use Rattle.tables.specs.declared.Found.the-variants.{Nothing}
 use Rattle.nesting.specs.Steps.{State, countsOf}
 use Rattle.reading.specs.Answers.{refusal}
 use Rattle.reading.specs.Lent.{roomIn, readInto, left}
 use Rattle.reading.specs.declared.Reading.{Reading}
 use Rattle.folding.specs.Pieces.{physical, Within}
-use Rattle.folding.specs.Strict.{first, strict, strictPieces, Full}
+use Rattle.characters.specs.Utf8.{isUtf8}
+use Rattle.characters.specs.Grammar.{Utf8, IllFormedAt}
+use Rattle.folding.specs.Strict.{first, strict, strictPieces, CutAtStarts, bytewise, Full}
 use Rattle.folding.specs.Repository.{repository}
-use Rattle.folding.specs.Answers.{lineAnswer, foldAnswer}
+use Rattle.folding.specs.Answers.{strictLine, repositoryLine, foldAnswer}
 use Rattle.quoting.specs.Quoting.{quoted}
 use Rattle.quoting.specs.Answers.{quoteAnswer}
 use Rattle.escapes.specs.Text.{escapesFine, textOf, asValue}
@@ -31,7 +36,7 @@ use Rattle.escapes.specs.Answers.{textAnswer, textOut, valueAnswer, valueOut}
 use Rattle.escapes.specs.declared.Mode.{Mode}
 use Rattle.escapes.specs.Grammar.{StandsFor}
 use Rattle.escapes.proofs.Grammar.{reads}
-use Rattle.printing.specs.Lines.{written}
+use Rattle.printing.specs.Lines.{propertyLine, written}
 use Rattle.writing.specs.Answers.{writtenIn, writeAnswer, writeOut}
 use Rattle.twins.specs.Answers.{levels, compared, twinsAnswer}
 use Rattle.twins.proofs.Laws.{Asked, Twins, twins-exactly, twin-itself, twin-turned, twin-joined, LooseTwins, twin-is-loose, loose-itself, loose-turned, loose-joined}
@@ -41,7 +46,7 @@ use Rattle.demands.specs.Outputs.{FitTables, RoomDecides, toldBytes}
 use Rattle.demands.specs.Texts.{BadAt}
 use Rattle.demands.specs.Readable.{Readable, ReadTo}
 use Rattle.demands.specs.Room.{AtMost, Exceeds, SameLeft, Suffices}
-use Rattle.demands.specs.Returning.{Enough}
+use Rattle.demands.specs.Returning.{linesOf, valuesUtf8, Enough}
 use Rattle.demands.specs.Grammar.{Calendar}
 use Rattle.demands.specs.LineFaults.{StrayAt, BadLine}
 use Rattle.demands.specs.GrammarRefusals.{Broken}
@@ -54,8 +59,10 @@ use Rattle.demands.proofs.Grammar.{readable-calendar, answered-broken, 
 use Rattle.demands.proofs.Before.{told-before, became}
 use Rattle.demands.proofs.MeetsRule.{done-meets}
 use Rattle.demands.proofs.MoreRoom.{same-reading, two-exactly, ten-exactly, refusals-suffice, one-two-leave, later-leave}
-use Rattle.demands.proofs.OutRoom.{fold-room, quote-room, text-room, value-room, write-room}
-use Rattle.demands.proofs.Folds.{strict-unfolds, repository-unfolds, strict-75, strict-full}
+use Rattle.demands.proofs.OutRoom.{strict-room, repository-room, quote-room, text-room, value-room, write-room}
+use Rattle.demands.proofs.Folds.{strict-unfolds, repository-unfolds, strict-75, strict-starts, strict-ascii, strict-uncut, ill-told, told-ill}
+use Rattle.demands.proofs.Characters.{property-utf8, utf8-lines}
+use Rattle.demands.proofs.Fitting.{accepted-fit, accepted}
 use Rattle.demands.proofs.Texts.{told-back, bad-escape-at, text-no-longer}
 use Rattle.demands.proofs.RoundTrip as trip
 use Rattle.demands.proofs.Examples.{all-starred}
@@ -123,11 +130,11 @@ done-gives feed b = readable-done feed b
 pub reading-meets-rule : (feed : List ℕ) (b : Lent) → readInto feed b .answer ≡ done → brokenIn (toldOf (readInto feed b) (left feed b)) ≡ Nothing
 reading-meets-rule = done-meets
 
--- 8. Unfolding gives back what either fold made of a line without LF; the strict fold has 75 octets at most in a physical line, and every one but
--- the last is full. [B-60, B-62]
+-- 8. Unfolding gives back what either fold made of a line without LF; the strict fold has 75 octets at most in a physical line, and cuts each at the
+-- last character start that it takes. [B-60, B-62, R4-03, R4-08]
 pub folds-come-back : (line : List ℕ) → Unbroken line
-    → (unfolded (strict line) ≡ line) × (unfolded (repository line) ≡ line) × Within 75 (physical (strictPieces line)) × Full first (strictPieces line)
-folds-come-back line w = (strict-unfolds line w, repository-unfolds line w, strict-75 line, strict-full line)
+    → (unfolded (strict line) ≡ line) × (unfolded (repository line) ≡ line) × Within 75 (physical (strictPieces line)) × CutAtStarts first (strictPieces line)
+folds-come-back line w = (strict-unfolds line w, repository-unfolds line w, strict-75 line, strict-starts line)
 
 -- 8a. A value is read, and as this text, exactly where the grammar of escaped text says so. [R1-02]
 pub text-is-grammar : (mode : Mode) (value text : List ℕ) → ((escapesFine mode value ≡ true) × (textOf value ≡ text)) ↔ StandsFor mode value text
@@ -144,6 +151,27 @@ text-comes-back = told-back
 pub bad-escape-told : (mode : Mode) (value : List ℕ) (room : ℕ)
     → (textAnswer mode value room .answer ≡ badEscape → BadAt mode value (textAnswer mode value room .place)) × (textAnswer mode value room .length ≤ length value)
 bad-escape-told mode value room = (bad-escape-at mode value room, text-no-longer mode value room)
+
+-- 8d. A line of ASCII folds as before request 4: byte by byte, and every physical line but the last is full. [R4-04, B-62]
+pub ascii-as-before : (line : List ℕ) → only ascii line ≡ true → (strict line ≡ bytewise line) × Full first (strictPieces line)
+ascii-as-before = strict-ascii
+
+-- 8e. No character of a line of UTF-8 is cut: each piece is UTF-8 too, in the words of the grammar of RFC 3629. [R4-01, R4-03]
+pub no-character-cut : (line : List ℕ) → Utf8 line → All Utf8 (strictPieces line)
+no-character-cut = strict-uncut
+
+-- 8f. The strict fold tells 19 exactly where the first ill-formed character begins, by the same grammar, if it tells neither 1 nor 11. [R4-01, R4-05]
+pub not-utf8-told : (line : List ℕ) (room : ℕ)
+    → (foldAnswer strictLine strict line room .answer ≡ notUtf8 → IllFormedAt line (foldAnswer strictLine strict line room .place))
+    × (length line ≤ longest → Unbroken line → (place : ℕ) → IllFormedAt line place → foldAnswer strictLine strict line room ≡ output notUtf8 place 0)
+not-utf8-told line room = (ill-told line room, told-ill line room)
+
+-- 8g. A line is UTF-8 just if its values are, each by itself, since its keys and marks are ASCII; and every line that the writer folds is UTF-8, so that
+-- nothing it writes has a character cut. [R4-05, R4-07]
+pub values-decide : ((p : Property) → only keyByte (p .key) ≡ true → All (λ (q : Parameter). only keyByte (q .key) ≡ true) (p .parameters)
+    → isUtf8 (propertyLine p) ≡ valuesUtf8 (p .parameters) && isUtf8 (p .value))
+    × ((b : Lent) (room : ℕ) → writeAnswer b room .answer ≡ done → All Utf8 (linesOf (treesIn b)))
+values-decide = (property-utf8, λ b room e. utf8-lines (treesIn b) (accepted-fit b (accepted b room e .1)))
 
 -- 9. The round trip: what the writer accepts, written and then read with room enough, is Done and stands for the same trees. Room enough is as many
 -- bytes as were written, and as many rows as the tables have. [B-69]
@@ -207,9 +235,10 @@ counts-are-enough = refusals-suffice
 -- 18. The same of the writer, of both folds and of quoting: more room changes nothing but 13, which is told exactly where there is too little, with
 -- the length that is enough; a refusal leaves the buffer as it was. [B-39, B-74 to B-76]
 pub output-room : ((b : Lent) → RoomDecides (FitTables b) (writtenIn b) (writeAnswer b))
-    × ((fold : List ℕ → List ℕ) (line : List ℕ) → RoomDecides (lineAnswer line .answer ≡ done) (fold line) (foldAnswer fold line))
+    × ((line : List ℕ) → RoomDecides (strictLine line .answer ≡ done) (strict line) (foldAnswer strictLine strict line))
+    × ((line : List ℕ) → RoomDecides (repositoryLine line .answer ≡ done) (repository line) (foldAnswer repositoryLine repository line))
     × ((value : List ℕ) → RoomDecides (length value ≤ longest) (quoted value) (quoteAnswer value))
-output-room = (write-room, λ fold line. fold-room line fold, quote-room)
+output-room = (write-room, strict-room, repository-room, quote-room)
 
 -- 18a. And of reading and writing text: room decides where value and text are within the limit and every escape is of the mode. [R1-05]
 pub text-room-decides : ((mode : Mode) (value : List ℕ)

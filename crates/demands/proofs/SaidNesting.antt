@@ -10,6 +10,7 @@ use borrow.Author.Tests.{lt-ltb}
 use Rattle.octets.specs.Choice.{pick}
 use Rattle.octets.specs.Answers.{deepest}
 use Rattle.octets.specs.Views.{viewed}
+use Rattle.octets.specs.All.{All}
 use Rattle.octets.specs.declared.Span.{Span}
 use Rattle.octets.proofs.Words.{same-eq, same-refl}
 use Rattle.parameters.specs.Values.{span}
@@ -28,7 +29,6 @@ use Rattle.nesting.specs.declared.Check.{Check}
 use Rattle.nesting.specs.declared.Entry.{Entry}
 use Rattle.nesting.specs.declared.Refusal.{Refusal}
 use Rattle.nesting.proofs.Lines.{goes-on, deep}
-use Rattle.demands.specs.Returning.{All}
 use Rattle.demands.specs.LineGrammar.{Opens, Closes, PropertyLine}
 use Rattle.demands.specs.GrammarRefusals.{Begun, in-this, in-another}
 use Rattle.demands.specs.Grammar.{noRow, Rows, openedRow, withComponent, withProperty, line, Body, no-line, empty-line, a-property, a-component}

@@ -15,10 +15,11 @@ use Rattle.octets.specs.Runs.{run, only}
 use Rattle.octets.specs.Words.{startsWord, beginWord, endWord}
 use Rattle.octets.specs.Keys.{stopsAt, standsAlone, reserved, keyOf}
 use Rattle.octets.specs.Views.{part, viewed}
+use Rattle.octets.specs.All.{All}
 use Rattle.octets.specs.declared.Key.the-variants.{Run}
 use Rattle.octets.specs.declared.Span.{Span}
 use Rattle.octets.proofs.Bools.{both}
-use Rattle.octets.proofs.Runs.{no-run, within, through, whole-head, whole-tail, whole-wider}
+use Rattle.octets.proofs.Runs.{no-run, through, whole-head, whole-tail, whole-wider, all-of}
 use Rattle.octets.proofs.Keys.{taken}
 use Rattle.parameters.specs.Values.{span, ValueWithin}
 use Rattle.parameters.specs.Parameter.{param, frontOf}
@@ -40,7 +41,7 @@ use Rattle.quoting.specs.Quoting.{wraps, quoted}
 use Rattle.writable.specs.WritingRule.{nameFits, noBreak, presentFits, valueFits}
 use Rattle.printing.specs.Lines.{beginLine, endLine, valueText, parameterText, parametersText, propertyLine}
 use Rattle.demands.specs.Writable.{Writable}
-use Rattle.demands.specs.Returning.{All, linesOf, Plain, fitParameter, FitProperty, Fit, Scanned}
+use Rattle.demands.specs.Returning.{linesOf, Plain, fitParameter, FitProperty, Fit, Scanned}
 use Rattle.demands.proofs.Quotes.{quoted-back}
 
 -- ---- what fits
@@ -48,9 +49,6 @@ use Rattle.demands.proofs.Quotes.{quoted-back}
 pub neither : (a : Bool) {b : Bool} → a || b ≡ false → (a ≡ false) × (b ≡ false)
 neither true e = absurd (false≢true (sym e))
 neither false e = (refl, e)
-
-pub all-of : (class : ℕ → Bool) (xs : List ℕ) → only class xs ≡ true → run class xs ≡ length xs
-all-of class xs h = omega (arith, leb-true (length xs) (run class xs) h, within class xs)
 
 -- one key byte or more, and no other byte
 record Keyed (name : List ℕ) : Type 0 where
@@ -454,17 +452,22 @@ unfolding All
 all-both so [] ys p q = q
 all-both so (x ∷ xs) ys (p, ps) q = (p, all-both so xs ys ps q)
 
-plain-properties : (ps : List Property) → All FitProperty ps → All Plain (map propertyLine ps)
-unfolding All
-plain-properties [] fit = tt
-plain-properties (p ∷ ps) (f, fit) = (plain-property p f, plain-properties ps fit)
+-- what is so of each kind of line is so of every line of trees that fit the writing rule
+module _ (so : List ℕ → Type 0) (begins : (name : List ℕ) → nameFits name ≡ true → so (beginLine name)) (ends : (name : List ℕ) → nameFits name ≡ true → so (endLine name))
+    (holds : (p : Property) → FitProperty p → so (propertyLine p)) where
+  each-property : (ps : List Property) → All FitProperty ps → All so (map propertyLine ps)
+  unfolding All
+  each-property [] fit = tt
+  each-property (p ∷ ps) (f, fit) = (holds p f, each-property ps fit)
 
--- every line of trees that fit the writing rule
+  pub each-line : (ts : Trees) → Fit ts → All so (linesOf ts)
+  unfolding Fit linesOf All
+  each-line none fit = tt
+  each-line (tree name properties children rest) (n, ps, c, r) = (
+    begins name n,
+    all-both so (map propertyLine properties) (linesOf children ++ (endLine name ∷ linesOf rest)) (each-property properties ps)
+        (all-both so (linesOf children) (endLine name ∷ linesOf rest) (each-line children c) (ends name n, each-line rest r)),
+  )
+
 pub plain-lines : (ts : Trees) → Fit ts → All Plain (linesOf ts)
-unfolding Fit linesOf All
-plain-lines none fit = tt
-plain-lines (tree name properties children rest) (n, ps, c, r) = (
-  plain-begin name n,
-  all-both Plain (map propertyLine properties) (linesOf children ++ (endLine name ∷ linesOf rest)) (plain-properties properties ps)
-      (all-both Plain (linesOf children) (endLine name ∷ linesOf rest) (plain-lines children c) (plain-end name n, plain-lines rest r)),
-)
+plain-lines = each-line Plain plain-begin plain-end plain-property

@@ -6,8 +6,8 @@ use mathlib.Core.Path.{_≡_}
 use mathlib.Core.List.{List, [], _∷_, _++_}
 use lib.ListN.{length}
 use Rattle.octets.specs.Bytes.{keyByte}
+use Rattle.octets.specs.All.{All}
 use Rattle.lines.specs.Split.{Placed}
-use Rattle.demands.specs.Returning.{All}
 use Rattle.demands.specs.LineGrammar.{Some, begin, end, Marked, Opens}
 use Rattle.demands.specs.LineFaults.{Faulty}
 use Rattle.demands.specs.Grammar.{line, Lines, noRow, Rows, noRows, openedRow, withComponent, Body}

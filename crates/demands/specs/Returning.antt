@@ -9,8 +9,10 @@ use mathlib.Core.List.{List, [], _∷_, _++_, map}
 use lib.ListN.{length, getD}
 use Rattle.octets.specs.Bytes.{cr, lf, blank, keyByte}
 use Rattle.octets.specs.Runs.{only}
+use Rattle.octets.specs.All.{All}
 use Rattle.octets.specs.Views.{viewed}
 use Rattle.unfolding.specs.Unfold.{unfolded}
+use Rattle.characters.specs.Utf8.{isUtf8}
 use Rattle.lines.specs.Split.{Placed}
 use Rattle.lines.specs.Rule.{lineOf}
 use Rattle.lines.specs.declared.Line.the-variants.{Content}
@@ -21,15 +23,10 @@ use Rattle.tables.specs.Lent.{Lent, componentsIn, propertiesIn, parametersIn}
 use Rattle.nesting.specs.Rows.{parameterRows}
 use Rattle.nesting.specs.Steps.{State, nothing, readLines, finished}
 use Rattle.reading.specs.Lent.{roomIn}
-use Rattle.writable.specs.WritingRule.{nameFits, keyFits, noBreak, valueFits}
+use Rattle.writable.specs.WritingRule.{nameFits, keyFits, noBreak, valueFits, valueUtf8}
 use Rattle.printing.specs.Lines.{closedLine, beginLine, endLine, propertyLine, written}
 use Rattle.writing.specs.Answers.{writtenIn}
 use Rattle.demands.specs.Readable.{Readable}
-
--- each of them is so
-unfoldable pub All : {A : Type 0} → (A → Type 0) → List A → Type 0
-All so [] = Unit {0}
-All so (x ∷ xs) = so x × All so xs
 
 -- ---- lines
 
@@ -69,10 +66,17 @@ pub record FitProperty (p : Property) : Type 0 where
   pub key : keyFits (p .key) ≡ true
   pub value : only noBreak (p .value) ≡ true
   pub parameters : All (λ (q : Parameter). fitParameter q ≡ true) (p .parameters)
+  pub utf8 : isUtf8 (p .value) ≡ true
+  pub parameters-utf8 : All (λ (q : Parameter). valueUtf8 (q .value) ≡ true) (p .parameters)
 
 unfoldable pub Fit : Trees → Type 0
 Fit none = Unit {0}
 Fit (tree name properties children rest) = (nameFits name ≡ true) × All FitProperty properties × Fit children × Fit rest
+
+-- the values of parameters that are present are UTF-8
+unfoldable pub valuesUtf8 : List Parameter → Bool
+valuesUtf8 [] = true
+valuesUtf8 (p ∷ ps) = valueUtf8 (p .value) && valuesUtf8 ps
 
 -- trees that nest no deeper than this
 unfoldable pub Shallow : ℕ → Trees → Type 0

@@ -6,7 +6,7 @@ ghost use Rattle.reading.specs.Answers.{textAfter};
 ghost use Rattle.reading.specs.Lent.{readInto, left};
 ghost use Rattle.folding.specs.Strict.{strict};
 ghost use Rattle.folding.specs.Repository.{repository};
-ghost use Rattle.folding.specs.Answers.{foldAnswer, foldOut};
+ghost use Rattle.folding.specs.Answers.{strictLine, repositoryLine, foldAnswer, foldOut};
 ghost use Rattle.quoting.specs.Answers.{quoteAnswer, quoteOut};
 ghost use Rattle.escapes.specs.Answers.{textAnswer, textOut, valueAnswer, valueOut};
 ghost use Rattle.writing.specs.Answers.{writeAnswer, writeOut};
@@ -103,8 +103,8 @@ pub extern "C" fn hawniretem_unfold(feed: &[u8], text: &mut [u8], numbers: &mut 
 // Folds a line as the repository does.
 #[no_mangle]
 pub extern "C" fn hawniretem_fold_line(line: &[u8], out: &mut [u8], numbers: &mut [usize; 3])
-    ensures { λ _. ⌜ now (numbers .exit) ≡ outputNumbers (foldAnswer repository (now (line .entry)) (length (now (out .entry)))) ⌝ }
-    ensures { λ _. ⌜ now (out .exit) ≡ foldOut repository (now (line .entry)) (now (out .entry)) ⌝ }
+    ensures { λ _. ⌜ now (numbers .exit) ≡ outputNumbers (foldAnswer repositoryLine repository (now (line .entry)) (length (now (out .entry)))) ⌝ }
+    ensures { λ _. ⌜ now (out .exit) ≡ foldOut repositoryLine repository (now (line .entry)) (now (out .entry)) ⌝ }
 {
     tell(folding::fold_line(line, out), numbers)
 }
@@ -112,8 +112,8 @@ pub extern "C" fn hawniretem_fold_line(line: &[u8], out: &mut [u8], numbers: &mu
 // Folds a line as RFC 5545 asks.
 #[no_mangle]
 pub extern "C" fn hawniretem_fold_strict(line: &[u8], out: &mut [u8], numbers: &mut [usize; 3])
-    ensures { λ _. ⌜ now (numbers .exit) ≡ outputNumbers (foldAnswer strict (now (line .entry)) (length (now (out .entry)))) ⌝ }
-    ensures { λ _. ⌜ now (out .exit) ≡ foldOut strict (now (line .entry)) (now (out .entry)) ⌝ }
+    ensures { λ _. ⌜ now (numbers .exit) ≡ outputNumbers (foldAnswer strictLine strict (now (line .entry)) (length (now (out .entry)))) ⌝ }
+    ensures { λ _. ⌜ now (out .exit) ≡ foldOut strictLine strict (now (line .entry)) (now (out .entry)) ⌝ }
 {
     tell(folding::fold_strict(line, out), numbers)
 }

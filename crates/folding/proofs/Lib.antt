@@ -1,3 +1,4 @@
 pub mod Strict
+pub mod Pieces
 pub mod Repository
 pub mod Answers

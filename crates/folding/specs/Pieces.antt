@@ -4,6 +4,7 @@ use Prim.Native.Nat.{ℕ, _≤_}
 use lib.ListN.{length}
 use mathlib.Core.List.{List, [], _∷_, _++_, map}
 use Rattle.octets.specs.Bytes.{cr, lf, space}
+use Rattle.octets.specs.All.{All}
 
 -- what stands between two pieces: CRLF and a space
 abbrev pub brk : List ℕ
@@ -25,6 +26,5 @@ physical [] = []
 physical (p ∷ ps) = p ∷ map (λ (q : List ℕ). space ∷ q) ps
 
 -- none of them has more bytes than this
-unfoldable pub Within : ℕ → List (List ℕ) → Type 0
-Within width [] = Unit {0}
-Within width (p ∷ ps) = (length p ≤ width) × Within width ps
+abbrev pub Within : ℕ → List (List ℕ) → Type 0
+Within width ps = All (λ (p : List ℕ). length p ≤ width) ps

@@ -1,14 +1,14 @@
--- The strict fold (document 01, "Folds"; RFC 5545, section 3.1): greedy over units, none of which is cut.
--- Here document 01 departs from the RFC: docs/DIFFERENCES.md, R-21.
+-- The strict fold (document 01, "Folds"; document 02, request 4; RFC 5545, section 3.1): greedy over characters, none of which is cut.
 -- Assumes nothing.
 use Prim.Native.Nat.{ℕ, _-_, _≤_, _<_}
 use mathlib.Core.Path.{_≡_}
 use mathlib.Core.Bool.{Bool, true, false}
-use mathlib.Core.List.{List, [], _∷_, _++_}
+use mathlib.Core.List.{List, [], _∷_, _++_, flatten, map}
 use lib.ListN.{length}
 use lib.Dec.{leb}
 use Rattle.octets.specs.Choice.{pick}
 use Rattle.octets.specs.Laid.{counted}
+use Rattle.characters.specs.Units.{units, lastStart}
 use Rattle.folding.specs.Pieces.{brk}
 use Rattle.folding.specs.declared.Folded.{Folded}
 
@@ -18,11 +18,6 @@ first = 75
 
 abbrev pub later : ℕ
 later = 74
-
--- what is never cut: each byte by itself
-unfoldable pub units : List ℕ → List (List ℕ)
-units [] = []
-units (x ∷ xs) = (x ∷ []) ∷ units xs
 
 -- a unit, with so many octets left in the present physical line: one that does not fit has a break before it, and a new line's octets
 abbrev pub breakFor : ℕ → List ℕ → List ℕ
@@ -66,6 +61,17 @@ packed left (u ∷ us) = kept (leb (length u) left) (onto u (packed (leftFor lef
 
 abbrev pub strictPieces : List ℕ → List (List ℕ)
 strictPieces line = packed first (units line)
+
+-- "a cut goes at the last character start within the limit": each piece is as long as the characters that its physical line takes of all that is left
+unfoldable pub CutAtStarts : ℕ → List (List ℕ) → Type 0
+CutAtStarts width [] = Unit {0}
+CutAtStarts width (p ∷ ps) = (length p ≡ lastStart width (flatten (p ∷ ps))) × CutAtStarts later ps
+
+-- ---- lines of ASCII, which serve laws only
+
+-- the strict fold of document 01: each byte is a unit
+abbrev pub bytewise : List ℕ → List ℕ
+bytewise line = foldedUnits first (map (λ (x : ℕ). x ∷ []) line)
 
 -- as full as they go: every piece but the last fills its physical line, and none but the first is empty
 unfoldable pub FullFrom : ℕ → List ℕ → List (List ℕ) → Type 0

@@ -1,15 +1,18 @@
-// The two folds of a line: the strict one of RFC 5545, section 3.1, which the writer uses, and the repository's.
+// The two folds of a line: the strict one of RFC 5545, section 3.1, which takes UTF-8 and which the writer uses, and the repository's.
 // Here document 01 departs from the RFC: docs/DIFFERENCES.md, R-20, R-21.
 ghost use mathlib.Core.Path.{_≡_};
 ghost use Prim.Native.Nat.{_+_, _<_};
 ghost use lib.ListN.{length};
 ghost use mathlib.Core.List.{_++_};
 ghost use Rattle.octets.specs.Laid.{laid, Lays};
+ghost use Rattle.octets.specs.Answers.{output};
 ghost use Rattle.octets.specs.Runs.{run, only};
+ghost use Rattle.octets.specs.Bytes.{ascii};
+ghost use Rattle.characters.specs.Units.{units};
 ghost use Rattle.folding.specs.Pieces.{brk};
-ghost use Rattle.folding.specs.Strict.{units, foldedUnits, foldedPiece, strict};
+ghost use Rattle.folding.specs.Strict.{foldedUnits, foldedPiece, strict};
 ghost use Rattle.folding.specs.Repository.{cut, repository};
-ghost use Rattle.folding.specs.Answers.{ascii, foldable, lineAnswer, foldAnswer, foldOut};
+ghost use Rattle.folding.specs.Answers.{foldable, byteAnswer, strictLine, repositoryLine, foldAnswer, foldOut};
 use octets::Output;
 
 // How many octets the present physical line still takes.
@@ -54,7 +57,7 @@ pub fn fold_piece(column: Column, piece: &[u8], out: &mut [u8]) -> Folded
     let mut at: usize = 0;
     let mut length: usize = 0;
     while left < piece.len() - at {
-        let next = at + left;
+        let next = at + characters::start_within(&piece[at..], left);
         length = lay_line(&piece[at..next], out, length);
         at = next;
         left = Column::LATER;
@@ -124,45 +127,63 @@ fn ascii_run(line: &[u8]) -> usize
     i
 }
 
-// What refuses a line whatever the fold, or Done.
-fn check_line(line: &[u8]) -> Output
-    ensures { λ r. ⌜ r ≡ lineAnswer (now (line .entry)) ⌝ }
+// Refuses at a place.
+fn refuse(answer: u32, place: usize) -> Output
+    ensures { λ r. ⌜ r ≡ output answer place 0 ⌝ }
 {
-    if line.len() > octets::LONGEST {
-        return Output {
-            answer: octets::TOO_LONG,
-            place: 0,
-            length: 0,
-        };
-    }
-    if all_foldable(line) {
-        return Output {
-            answer: octets::DONE,
-            place: 0,
-            length: 0,
-        };
-    }
-    // What is wrong is looked for only where something is.
-    let end = octets::find_byte(line, 0, b'\n');
-    if end < line.len() {
-        return Output {
-            answer: octets::HAS_BREAK,
-            place: end,
-            length: 0,
-        };
-    }
     Output {
-        answer: octets::NOT_ASCII,
-        place: ascii_run(line),
+        answer,
+        place,
         length: 0,
     }
 }
 
+// What refuses a line for its bytes: an LF, or a byte that the fold does not take, of which `sound` stand in front.
+fn check_bytes(line: &[u8], number: u32, sound: usize) -> Output
+    ensures { λ r. ⌜ r ≡ byteAnswer number sound (now (line .entry)) ⌝ }
+{
+    let end = octets::find_near(line, 0, b'\n');
+    if end < line.len() {
+        return refuse(octets::HAS_BREAK, end);
+    }
+    if sound < line.len() {
+        return refuse(number, sound);
+    }
+    refuse(octets::DONE, 0)
+}
+
+// What refuses a line in the strict fold, or Done. What is wrong is looked for only where something may be.
+fn check_strict(line: &[u8]) -> Output
+    ensures { λ r. ⌜ r ≡ strictLine (now (line .entry)) ⌝ }
+{
+    if line.len() > octets::LONGEST {
+        return refuse(octets::TOO_LONG, 0);
+    }
+    if all_foldable(line) {
+        return refuse(octets::DONE, 0);
+    }
+    check_bytes(line, octets::NOT_UTF8, characters::utf8_run(line))
+}
+
+// The same in the repository's.
+fn check_repository(line: &[u8]) -> Output
+    ensures { λ r. ⌜ r ≡ repositoryLine (now (line .entry)) ⌝ }
+{
+    if octets::LONGEST < line.len() {
+        return refuse(octets::TOO_LONG, 0);
+    }
+    if all_foldable(line) {
+        return refuse(octets::DONE, 0);
+    }
+    check_bytes(line, octets::NOT_ASCII, ascii_run(line))
+}
+
 // The strict fold of a line, counted first and then written: a refusal changes nothing.
 pub fn fold_strict(line: &[u8], out: &mut [u8]) -> Output
-    ensures { λ r. ⌜ (r ≡ foldAnswer strict (now (line .entry)) (length (now (out .entry)))) × (now (out .exit) ≡ foldOut strict (now (line .entry)) (now (out .entry))) ⌝ }
+    ensures { λ r. ⌜ (r ≡ foldAnswer strictLine strict (now (line .entry)) (length (now (out .entry))))
+        × (now (out .exit) ≡ foldOut strictLine strict (now (line .entry)) (now (out .entry))) ⌝ }
 {
-    let checked = check_line(line);
+    let checked = check_strict(line);
     if checked.answer != octets::DONE {
         return checked;
     }
@@ -179,9 +200,10 @@ pub fn fold_strict(line: &[u8], out: &mut [u8]) -> Output
 
 // The repository's fold of a line, in the same way.
 pub fn fold_line(line: &[u8], out: &mut [u8]) -> Output
-    ensures { λ r. ⌜ (r ≡ foldAnswer repository (now (line .entry)) (length (now (out .entry)))) × (now (out .exit) ≡ foldOut repository (now (line .entry)) (now (out .entry))) ⌝ }
+    ensures { λ r. ⌜ (r ≡ foldAnswer repositoryLine repository (now (line .entry)) (length (now (out .entry))))
+        × (now (out .exit) ≡ foldOut repositoryLine repository (now (line .entry)) (now (out .entry))) ⌝ }
 {
-    let checked = check_line(line);
+    let checked = check_repository(line);
     if checked.answer != octets::DONE {
         return checked;
     }

@@ -1,4 +1,4 @@
--- Numbers, views, keys and room by example, held against document 01, and the numbers of document 02, requests 1 and 2. Assumes nothing.
+-- Numbers, views, keys and room by example, held against document 01, and the numbers of document 02, requests 1, 2 and 4. Assumes nothing.
 use Prim.Native.Nat.{ℕ, zero, suc}
 use mathlib.Core.Bool.{Bool}
 use mathlib.Core.Path.{_≡_, refl}
@@ -15,11 +15,12 @@ use Rattle.octets.specs.Answers.{output, roomAnswer, outAfter}
 use Rattle.octets.specs.declared.Key.the-variants.{Reserved, Run}
 
 -- "No. | Name": the sixteen names in the order of the table, each with its number; "16 BadEscape" (document 02, request 1);
--- "7 then means empty key", "17 ReservedKey", "18 StrayByte" (request 2)
+-- "7 then means empty key", "17 ReservedKey", "18 StrayByte" (request 2);
+-- "19 NotUtf8" (request 4)
 numbered : (answers.done ∷ answers.tooLong ∷ answers.noTextRoom ∷ answers.badBegin ∷ answers.tooDeep ∷ answers.badEnd ∷ answers.outside ∷ answers.emptyKey
     ∷ answers.unclosed ∷ answers.noComponent ∷ answers.noRoom ∷ answers.hasBreak ∷ answers.notAscii ∷ answers.noOutRoom ∷ answers.badTable ∷ answers.unwritable
-    ∷ answers.badEscape ∷ answers.reservedKey ∷ answers.strayByte ∷ [])
-    ≡ (0 ∷ 1 ∷ 2 ∷ 3 ∷ 4 ∷ 5 ∷ 6 ∷ 7 ∷ 8 ∷ 9 ∷ 10 ∷ 11 ∷ 12 ∷ 13 ∷ 14 ∷ 15 ∷ 16 ∷ 17 ∷ 18 ∷ [])
+    ∷ answers.badEscape ∷ answers.reservedKey ∷ answers.strayByte ∷ answers.notUtf8 ∷ [])
+    ≡ (0 ∷ 1 ∷ 2 ∷ 3 ∷ 4 ∷ 5 ∷ 6 ∷ 7 ∷ 8 ∷ 9 ∷ 10 ∷ 11 ∷ 12 ∷ 13 ∷ 14 ∷ 15 ∷ 16 ∷ 17 ∷ 18 ∷ 19 ∷ [])
 numbered = refl
 
 -- a start and a length: inside, up to the end, empty at the end; then with a length over the end, from the front too, and with a start over the end

@@ -1,6 +1,6 @@
 -- Laws of the longest run of a class and of lists that are one whole run, over any class, and of the loops that look for them. Assumes nothing.
 use mathlib.Core.Path.{_≡_, refl, sym, ap, _∙_}
-use mathlib.Core.Bool.{Bool, true, false, _&&_}
+use mathlib.Core.Bool.{Bool, true, false, _&&_, and-false}
 use mathlib.Core.List.{List, [], _∷_, _++_}
 use Prim.Native.Nat.{ℕ, zero, suc, _+_, _≤_, _<_, zero-le, suc-le-suc}
 use native.Mathlib.Nat.{zero-add, not-suc-le-zero, le-of-suc-le-suc}
@@ -111,6 +111,9 @@ module _ (class : ℕ → Bool) where
       go true e rest = rw e (ap suc rest)
       go false e rest = refl
 
+pub all-of : (class : ℕ → Bool) (xs : List ℕ) → only class xs ≡ true → run class xs ≡ length xs
+all-of class xs h = omega (arith, leb-true (length xs) (run class xs) h, within class xs)
+
 -- a run of a class is passed over within the run of a wider one
 wider : (narrow wide : ℕ → Bool) → ((x : ℕ) → narrow x ≡ true → wide x ≡ true)
     → (n : ℕ) (xs : List ℕ) → n ≤ run narrow xs → n + run wide (drop n xs) ≡ run wide xs
@@ -182,6 +185,19 @@ module _ (class : ℕ → Bool) where
 
   pub only-ended : (xs : List ℕ) (i : ℕ) → length xs ≤ i → only class (drop i xs) ≡ true
   only-ended xs i h = rw (drop-of-length-le xs h) (leb·zero (run class []))
+
+four : (a b c d : Bool) → (a && b) && (c && d) ≡ (a && c) && (b && d)
+four true true c d = refl
+four true false c d = sym (and-false c)
+four false b c d = refl
+
+-- every byte is of both classes: every one is of the first, and every one is of the second
+pub only-both : (f g : ℕ → Bool) (xs : List ℕ) → only (λ (x : ℕ). f x && g x) xs ≡ only f xs && only g xs
+only-both f g [] = only-ended (λ (x : ℕ). f x && g x) [] 0 (omega arith) ∙ sym (rw (only-ended f [] 0 (omega arith), only-ended g [] 0 (omega arith)))
+only-both f g (x ∷ xs) =
+    only-turn (λ (x : ℕ). f x && g x) (x ∷ xs) 0 (omega arith)
+    ∙ (ap (λ (t : Bool). (f x && g x) && t) (only-both f g xs)
+    ∙ (four (f x) (g x) (only f xs) (only g xs) ∙ sym (rw (only-turn f (x ∷ xs) 0 (omega arith), only-turn g (x ∷ xs) 0 (omega arith)))))
 
 pub record Tried (class : ℕ → Bool) (xs : List ℕ) (so : Bool) (i : ℕ) : Type 0 where
   pub inside : i ≤ length xs

@@ -73,6 +73,10 @@ reservedKey = 17
 abbrev pub strayByte : ℕ
 strayByte = 18
 
+-- document 02, request 4: in the strict fold and the writer, in the place of 12
+abbrev pub notUtf8 : ℕ
+notUtf8 = 19
+
 -- the three numbers of a fold, of quoting and of the writer
 abbrev pub output : ℕ → ℕ → ℕ → Output
 output answer place length = record { answer = answer; place = place; length = length }

@@ -40,6 +40,10 @@ blank x = eqb x space || eqb x tab
 abbrev pub between : ℕ → ℕ → ℕ → Bool
 between a z x = leb a x && leb x z
 
+-- below 128
+abbrev pub ascii : ℕ → Bool
+ascii x = leb x 127
+
 abbrev pub capital : ℕ → Bool
 capital = between 65 90
 

@@ -2,6 +2,7 @@ pub mod Choice
 pub mod Laid
 pub mod Bytes
 pub mod Runs
+pub mod All
 pub mod Numbers
 pub mod Classes
 pub mod Words

@@ -60,6 +60,8 @@ pub const RESERVED_KEY: u32 = 17;
 
 pub const STRAY_BYTE: u32 = 18;
 
+pub const NOT_UTF8: u32 = 19;
+
 // What a fold, quoting or the writer answers: on NO_OUT_ROOM the length is the one needed.
 pub struct Output {
     pub answer: u32,

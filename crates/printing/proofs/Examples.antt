@@ -2,7 +2,8 @@
 use mathlib.Core.Path.{_≡_, refl}
 use mathlib.Core.List.{[], _∷_}
 use Rattle.octets.specs.Runs.{run}
-use Rattle.folding.specs.Strict.{units, foldedUnits}
+use Rattle.characters.specs.Units.{unitsFrom}
+use Rattle.folding.specs.Strict.{foldedUnits}
 use Rattle.tables.specs.Trees.{Property, none, tree, absent, present}
 use Rattle.printing.specs.Lines.{parametersText, propertyLines, written}
 
@@ -32,5 +33,5 @@ pub lines : written (tree (65 ∷ []) (property ∷ []) (tree (66 ∷ []) (recor
     -- BEGIN:C, END:C
     ∷ 66 ∷ 69 ∷ 71 ∷ 73 ∷ 78 ∷ 58 ∷ 67 ∷ 13 ∷ 10
     ∷ 69 ∷ 78 ∷ 68 ∷ 58 ∷ 67 ∷ 13 ∷ 10 ∷ []
-unfolding run units foldedUnits parametersText propertyLines written
+unfolding run unitsFrom foldedUnits parametersText propertyLines written
 lines = refl

@@ -9,13 +9,18 @@ use lib.ListN.{length, getD, drop}
 use lib.Seq.{drop-cons, drop-drop, take-add}
 use borrow.Author.Tests.{eq-eqb, ne-eqb, le-leb}
 use Rattle.octets.specs.Laid.{most, counted, Lays}
-use Rattle.octets.specs.Bytes.{cr, lf, colon, semicolon}
+use Rattle.octets.specs.Bytes.{cr, lf, quote, colon, semicolon, equals, ascii}
+use Rattle.octets.specs.Runs.{run, only}
+use Rattle.octets.specs.Words.{beginWord, endWord}
 use Rattle.octets.specs.Views.{viewed}
+use Rattle.octets.proofs.Runs.{no-run}
 use Rattle.octets.proofs.Writing.{length-from, both, from-as, from-front, counts, stays}
-use Rattle.folding.specs.Strict.{first, units, foldedUnits, leftAfter}
-use Rattle.folding.proofs.Strict.{units-append, fold-append, left-append, fold-fits, left-fits}
+use Rattle.characters.specs.Units.{tail, unitsFrom, units}
+use Rattle.characters.proofs.Units.{ascii-alone, before-start, behind-ascii}
+use Rattle.folding.specs.Strict.{first, foldedUnits, leftAfter}
+use Rattle.folding.proofs.Strict.{fold-append, left-append, fold-fits, left-fits}
 use Rattle.tables.specs.Rows.{parameterSize, parameterAt}
-use Rattle.tables.specs.Trees.{present, parameterOf}
+use Rattle.tables.specs.Trees.{Parameter, present, parameterOf}
 use Rattle.tables.specs.Fronts.{front, belongs, ownParameters, ownProperty}
 use Rattle.tables.specs.Lent.{parametersIn}
 use Rattle.tables.specs.declared.PropertyRow.{PropertyRow}
@@ -26,16 +31,45 @@ use Rattle.printing.specs.Lines.{closedLine, valueText, parameterText, p
 use Rattle.printing.specs.Pens.{Penned, behindRun}
 use Rattle.printing.specs.declared.Pen.{Pen}
 
--- two pieces in turn are one
-pub then : {pen mid next : Pen} {xs ys old out new : List ℕ} → Penned pen xs old out mid → Penned mid ys out new next → length old ≤ most
-    → Penned pen (xs ++ ys) old new next
-then {pen} {mid} {next} {xs} {ys} p q h =
-    let e : foldedUnits (pen .left) (units xs) ++ foldedUnits (mid .left) (units ys) ≡ foldedUnits (pen .left) (units (xs ++ ys)) =
-    rw (units-append xs ys, fold-append (pen .left) (units xs) (units ys), p .left) in
-    record {
-      left = q .left ∙ rw (units-append xs ys, left-append (pen .left) (units xs) (units ys), p .left);
-      lays = from-as e (both (p .lays) (q .lays) h);
-    }
+-- two pieces in turn are one, if no character reaches from one into the other
+module _ {pen mid next : Pen} {xs ys old out new : List ℕ} (p : Penned pen xs old out mid) (q : Penned mid ys out new next) (h : length old ≤ most) where
+  then : units (xs ++ ys) ≡ units xs ++ units ys → Penned pen (xs ++ ys) old new next
+  then apart =
+      let e : foldedUnits (pen .left) (units xs) ++ foldedUnits (mid .left) (units ys) ≡ foldedUnits (pen .left) (units (xs ++ ys)) =
+      rw (apart, fold-append (pen .left) (units xs) (units ys), p .left) in
+      record {
+        left = q .left ∙ rw (apart, left-append (pen .left) (units xs) (units ys), p .left);
+        lays = from-as e (both (p .lays) (q .lays) h);
+      }
+
+  -- the first of them is ASCII
+  pub behind-mark : only ascii xs ≡ true → Penned pen (xs ++ ys) old new next
+  behind-mark e = then (behind-ascii xs ys e)
+
+  -- or the second begins with it
+  pub before-mark : run tail ys ≡ 0 → Penned pen (xs ++ ys) old new next
+  before-mark e = then (before-start xs ys e)
+
+-- a byte of ASCII is ASCII by itself, and ends the character before; what opens a quoted value is ASCII
+pub one-mark : (b : ℕ) → ascii b ≡ true → only ascii (b ∷ []) ≡ true
+unfolding run
+one-mark b e = rw e refl
+
+pub marks-front : (b : ℕ) (rest : List ℕ) → ascii b ≡ true → run tail (b ∷ rest) ≡ 0
+marks-front b rest e = no-run tail (b ∷ rest) 0 (ascii-alone b e .0)
+
+pub two-marks : only ascii (equals ∷ quote ∷ []) ≡ true
+unfolding run
+two-marks = refl
+
+-- and so is what opens or closes a component
+pub begin-mark : only ascii (beginWord ++ colon ∷ []) ≡ true
+unfolding run
+begin-mark = refl
+
+pub end-mark : only ascii (endWord ++ colon ∷ []) ≡ true
+unfolding run
+end-mark = refl
 
 -- a piece that the physical line takes whole is laid as it is
 pub whole : {pen next : Pen} {piece old new : List ℕ} → length piece ≤ pen .left → next .left ≡ pen .left - length piece
@@ -44,7 +78,7 @@ whole {pen} {next} {piece} h e p = record { left = e ∙ sym (left-fits (pen .le
 
 -- no piece
 pub nothing : (pen : Pen) (old : List ℕ) → pen .at ≤ most → Penned pen [] old old pen
-unfolding units foldedUnits leftAfter
+unfolding unitsFrom foldedUnits leftAfter
 nothing pen old h = record { left = refl; lays = stays (pen .at) old h }
 
 pub piece-as : {pen next : Pen} {xs ys old new : List ℕ} → xs ≡ ys → Penned pen xs old new next → Penned pen ys old new next
@@ -107,6 +141,12 @@ pub with-value : (text : List ℕ) (p : ParameterRow) {key value : List ℕ}
     → semicolon ∷ (key ++ valueText (present value)) ≡ parameterText (parameterOf text p)
 with-value text p e f g = rw (e, f, ne-eqb (p .present) 0 g)
 
+-- the text of parameters begins with `;`, if there are any
+pub marked : (ps : List Parameter) → run tail (parametersText ps) ≡ 0
+unfolding run parametersText
+marked [] = refl
+marked (p ∷ ps) = refl
+
 -- ---- the parameters of a property: those before row `next` are laid, and laying the others lays them all
 
 abbrev ownText : List ℕ → List ℕ → ℕ → ℕ → List ℕ
@@ -131,10 +171,10 @@ module _ {text table : List ℕ} {number first : ℕ} {start : Pen} {old out : L
       let rows = parametersIn table in
       let here : drop next rows ≡ p ∷ drop (next + 1) rows = rw e (row-here parameterSize parameterAt table next h) in
       let own : belongs number p ≡ true = eq-eqb (p .property) number o in
-      let run = run-on (belongs number) (drop next rows) (drop (next + 1) rows) p here own in
+      let own-text = run-on (belongs number) (drop next rows) (drop (next + 1) rows) p here own in
       let count = on (belongs number) (drop next rows) (drop (next + 1) rows) p here own in
       record {
-        rest = λ q. l .rest (rw run (then laid q (omega (arith, l .same))));
+        rest = λ q. l .rest (rw own-text (before-mark laid q (omega (arith, l .same)) (marked (ownParameters text number (next + 1) rows))));
         same = rw (laid .lays .is) (length-from (pen .at) (foldedUnits (pen .left) (units (parameterText (parameterOf text p)))) out ∙ l .same);
         room = omega (arith, laid .lays .count);
         row = omega (arith, count, l .row);

@@ -5,7 +5,8 @@ use mathlib.Core.Path.{_≡_}
 use mathlib.Core.List.{List}
 use lib.ListN.{drop}
 use Rattle.octets.specs.Laid.{Lays}
-use Rattle.folding.specs.Strict.{units, foldedUnits, leftAfter}
+use Rattle.characters.specs.Units.{units}
+use Rattle.folding.specs.Strict.{foldedUnits, leftAfter}
 use Rattle.tables.specs.Fronts.{front, belongs, ownProperty}
 use Rattle.tables.specs.declared.PropertyRow.{PropertyRow}
 use Rattle.tables.specs.declared.ParameterRow.{ParameterRow}

@@ -4,7 +4,8 @@ ghost use mathlib.Core.Bool.{true, false};
 ghost use mathlib.Core.List.{[], _∷_, _++_};
 ghost use Prim.Native.Nat.{_+_};
 ghost use lib.ListN.{length, drop};
-ghost use Rattle.octets.specs.Bytes.{cr, lf, colon};
+ghost use Rattle.octets.specs.Bytes.{cr, lf, colon, ascii};
+ghost use Rattle.octets.specs.Runs.{only};
 ghost use Rattle.octets.specs.Laid.{counted, Lays};
 ghost use Rattle.octets.specs.Views.{viewed};
 ghost use Rattle.tables.specs.Trees.{present, parameterOf};
@@ -75,8 +76,9 @@ fn lay_one(pen: Pen, b: u8, out: &mut [u8]) -> Pen
     lay_piece(pen, &one, out)
 }
 
-// Lays a byte and the piece behind it.
+// Lays a byte of ASCII, which ends any character, and the piece behind it.
 fn lay_after(pen: Pen, mark: u8, piece: &[u8], out: &mut [u8]) -> Pen
+    requires { ⌜ ascii mark ≡ true ⌝ }
     ensures { λ r. ⌜ Penned pen (mark ∷ now (piece .entry)) (now (out .entry)) (now (out .exit)) r ⌝ }
 {
     let marked = lay_one(pen, mark, out);
@@ -144,6 +146,7 @@ fn lay_end(out: &mut [u8], at: usize) -> usize
 
 // Lays the line that opens or closes a component: BEGIN or END with its colon, and the name.
 pub fn print_mark(mark: &[u8], name: &[u8], out: &mut [u8]) -> usize
+    requires { ⌜ only ascii (now mark) ≡ true ⌝ }
     ensures { λ r. ⌜ Lays 0 (closedLine (now (mark .entry) ++ now (name .entry))) (now (out .entry)) (now (out .exit)) r ⌝ }
 {
     let marked = lay_piece(Pen::START, mark, out);
@@ -307,6 +310,7 @@ pub fn count_property(
 
 // How long the line that opens or closes a component is.
 fn count_mark(mark: &[u8], name: &[u8]) -> usize
+    requires { ⌜ only ascii (now mark) ≡ true ⌝ }
     ensures { λ r. ⌜ r ≡ counted (length (closedLine (now (mark .entry) ++ now (name .entry)))) ⌝ }
 {
     let marked = count_piece(Pen::START, mark);

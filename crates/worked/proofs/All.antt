@@ -16,7 +16,9 @@ use Rattle.tables.specs.Trees.{gather, forest}
 use Rattle.nesting.specs.Steps as steps
 use Rattle.reading.specs.Answers.{readingOf, textAfter}
 use Rattle.folding.specs.Pieces as pieces
-use Rattle.folding.specs.Strict.{units, foldedUnits}
+use Rattle.characters.specs.Units.{unitsFrom}
+use Rattle.characters.specs.Utf8.{soundLen}
+use Rattle.folding.specs.Strict.{foldedUnits}
 use Rattle.folding.specs.Repository.{cuts}
 use Rattle.escapes.specs.Text.{fine, textOf, asValue}
 use Rattle.writable.specs.WritingRule.{judgedFrom, judgedIn}
@@ -129,26 +131,38 @@ unfolding bytes comesTrue wrong rising turning unfoldedAfter sameBytes startsWor
     linesAfter lineOf flat steps.readLines steps.outcomeOf readingOf textAfter
 no-component = refl
 
--- ---- the two folds: Done (0), an LF (11), a byte of 128 or more (12), too little room (13), and their order
+-- ---- the two folds: Done (0), an LF (11), a byte of 128 or more (12), an ill-formed character (19), too little room (13), and their order
 
 pub strictly : wrong folding.strictly ≡ []
-unfolding bytes comesTrue wrong turning sameBytes run pieces.behindBreaks units foldedUnits cuts
+unfolding bytes comesTrue wrong turning sameBytes run pieces.behindBreaks unitsFrom soundLen foldedUnits cuts
 strictly = refl
 
 pub refused-strictly : wrong folding.refusedStrictly ≡ []
-unfolding bytes comesTrue wrong turning sameBytes run pieces.behindBreaks units foldedUnits cuts
+unfolding bytes comesTrue wrong turning sameBytes run pieces.behindBreaks unitsFrom soundLen foldedUnits cuts
 refused-strictly = refl
 
+pub names : wrong folding.names ≡ []
+unfolding bytes comesTrue wrong turning sameBytes run pieces.behindBreaks unitsFrom soundLen foldedUnits cuts
+names = refl
+
+pub across-the-cut : wrong folding.acrossTheCut ≡ []
+unfolding bytes comesTrue wrong turning sameBytes run pieces.behindBreaks unitsFrom soundLen foldedUnits cuts
+across-the-cut = refl
+
+pub ill-formed : wrong folding.illFormed ≡ []
+unfolding bytes comesTrue wrong turning sameBytes run pieces.behindBreaks unitsFrom soundLen foldedUnits cuts
+ill-formed = refl
+
 pub as-repository : wrong folding.asRepository ≡ []
-unfolding bytes comesTrue wrong turning sameBytes run pieces.behindBreaks units foldedUnits cuts
+unfolding bytes comesTrue wrong turning sameBytes run pieces.behindBreaks unitsFrom soundLen foldedUnits cuts
 as-repository = refl
 
 pub at-the-cut : wrong folding.atTheCut ≡ []
-unfolding bytes comesTrue wrong turning sameBytes run pieces.behindBreaks units foldedUnits cuts
+unfolding bytes comesTrue wrong turning sameBytes run pieces.behindBreaks unitsFrom soundLen foldedUnits cuts
 at-the-cut = refl
 
 pub refused-as-repository : wrong folding.refusedAsRepository ≡ []
-unfolding bytes comesTrue wrong turning sameBytes run pieces.behindBreaks units foldedUnits cuts
+unfolding bytes comesTrue wrong turning sameBytes run pieces.behindBreaks unitsFrom soundLen foldedUnits cuts
 refused-as-repository = refl
 
 -- ---- quoting: left, wrapped, and too little room (13)
@@ -194,55 +208,60 @@ written-room = refl
 -- ---- what is written (answer 0) for tables made by hand, and too little room for it (13)
 
 pub lines : wrong writing.lines ≡ []
-unfolding bytes comesTrue wrong turning sameBytes startsWord run quotedLen furtherAfter formOf tabulate broken firstBroken outFrom gather forest units
-    foldedUnits judgedFrom judgedIn parametersText propertyLines written writeAnswer
+unfolding bytes comesTrue wrong turning sameBytes startsWord run quotedLen furtherAfter formOf tabulate broken firstBroken outFrom gather forest
+    unitsFrom soundLen foldedUnits judgedFrom judgedIn parametersText propertyLines written writeAnswer
 lines = refl
 
+pub accents : wrong writing.accents ≡ []
+unfolding bytes comesTrue wrong turning sameBytes startsWord run quotedLen furtherAfter formOf tabulate broken firstBroken outFrom gather forest
+    unitsFrom soundLen foldedUnits judgedFrom judgedIn parametersText propertyLines written writeAnswer
+accents = refl
+
 pub trees : wrong writing.trees ≡ []
-unfolding bytes comesTrue wrong turning sameBytes startsWord run quotedLen furtherAfter formOf tabulate broken firstBroken outFrom gather forest units
-    foldedUnits judgedFrom judgedIn parametersText propertyLines written writeAnswer
+unfolding bytes comesTrue wrong turning sameBytes startsWord run quotedLen furtherAfter formOf tabulate broken firstBroken outFrom gather forest
+    unitsFrom soundLen foldedUnits judgedFrom judgedIn parametersText propertyLines written writeAnswer
 trees = refl
 
 pub no-out-room : wrong writing.noOutRoomCases ≡ []
-unfolding bytes comesTrue wrong turning sameBytes startsWord run quotedLen furtherAfter formOf tabulate broken firstBroken outFrom gather forest units
-    foldedUnits judgedFrom judgedIn parametersText propertyLines written writeAnswer
+unfolding bytes comesTrue wrong turning sameBytes startsWord run quotedLen furtherAfter formOf tabulate broken firstBroken outFrom gather forest
+    unitsFrom soundLen foldedUnits judgedFrom judgedIn parametersText propertyLines written writeAnswer
 no-out-room = refl
 
--- ---- what the writer refuses: 14 by the table rule, 15 and 12 by the writing rule, with the row, and their order. The buffer stays
+-- ---- what the writer refuses: 14 by the table rule, 15 and 19 by the writing rule, with the row, and their order. The buffer stays
 
 pub broken-components : wrong writing-refused.brokenComponents ≡ []
-unfolding bytes comesTrue wrong turning sameBytes startsWord run quotedLen furtherAfter formOf tabulate broken firstBroken outFrom gather forest units
-    foldedUnits judgedFrom judgedIn parametersText propertyLines written writeAnswer
+unfolding bytes comesTrue wrong turning sameBytes startsWord run quotedLen furtherAfter formOf tabulate broken firstBroken outFrom gather forest
+    unitsFrom soundLen foldedUnits judgedFrom judgedIn parametersText propertyLines written writeAnswer
 broken-components = refl
 
 pub broken-parents : wrong writing-refused.brokenParents ≡ []
 unfolding bytes comesTrue wrong repeated nested turning sameBytes startsWord run quotedLen furtherAfter formOf tabulate broken firstBroken outFrom gather
-    forest units foldedUnits judgedFrom judgedIn parametersText propertyLines written writeAnswer
+    forest unitsFrom soundLen foldedUnits judgedFrom judgedIn parametersText propertyLines written writeAnswer
 broken-parents = refl
 
 pub broken-properties : wrong writing-refused.brokenProperties ≡ []
-unfolding bytes comesTrue wrong turning sameBytes startsWord run quotedLen furtherAfter formOf tabulate broken firstBroken outFrom gather forest units
-    foldedUnits judgedFrom judgedIn parametersText propertyLines written writeAnswer
+unfolding bytes comesTrue wrong turning sameBytes startsWord run quotedLen furtherAfter formOf tabulate broken firstBroken outFrom gather forest
+    unitsFrom soundLen foldedUnits judgedFrom judgedIn parametersText propertyLines written writeAnswer
 broken-properties = refl
 
 pub unwritable-names : wrong writing-refused.unwritableNames ≡ []
-unfolding bytes comesTrue wrong turning sameBytes startsWord run quotedLen furtherAfter formOf tabulate broken firstBroken outFrom gather forest units
-    foldedUnits judgedFrom judgedIn parametersText propertyLines written writeAnswer
+unfolding bytes comesTrue wrong turning sameBytes startsWord run quotedLen furtherAfter formOf tabulate broken firstBroken outFrom gather forest
+    unitsFrom soundLen foldedUnits judgedFrom judgedIn parametersText propertyLines written writeAnswer
 unwritable-names = refl
 
 pub unwritable-values : wrong writing-refused.unwritableValues ≡ []
-unfolding bytes comesTrue wrong turning sameBytes startsWord run quotedLen furtherAfter formOf tabulate broken firstBroken outFrom gather forest units
-    foldedUnits judgedFrom judgedIn parametersText propertyLines written writeAnswer
+unfolding bytes comesTrue wrong turning sameBytes startsWord run quotedLen furtherAfter formOf tabulate broken firstBroken outFrom gather forest
+    unitsFrom soundLen foldedUnits judgedFrom judgedIn parametersText propertyLines written writeAnswer
 unwritable-values = refl
 
-pub not-ascii : wrong writing-refused.notAsciiCases ≡ []
-unfolding bytes comesTrue wrong turning sameBytes startsWord run quotedLen furtherAfter formOf tabulate broken firstBroken outFrom gather forest units
-    foldedUnits judgedFrom judgedIn parametersText propertyLines written writeAnswer
-not-ascii = refl
+pub not-utf8 : wrong writing-refused.notUtf8Cases ≡ []
+unfolding bytes comesTrue wrong turning sameBytes startsWord run quotedLen furtherAfter formOf tabulate broken firstBroken outFrom gather forest
+    unitsFrom soundLen foldedUnits judgedFrom judgedIn parametersText propertyLines written writeAnswer
+not-utf8 = refl
 
 pub in-order : wrong writing-refused.inTurn ≡ []
-unfolding bytes comesTrue wrong turning sameBytes startsWord run quotedLen furtherAfter formOf tabulate broken firstBroken outFrom gather forest units
-    foldedUnits judgedFrom judgedIn parametersText propertyLines written writeAnswer
+unfolding bytes comesTrue wrong turning sameBytes startsWord run quotedLen furtherAfter formOf tabulate broken firstBroken outFrom gather forest
+    unitsFrom soundLen foldedUnits judgedFrom judgedIn parametersText propertyLines written writeAnswer
 in-order = refl
 
 -- ---- the twin test: twins (1), no twins (0), 14 by the table rule, 14 by a row number, and their order

@@ -10,12 +10,13 @@ use borrow.Author.Tests.{le-leb, lt-leb}
 use Rattle.octets.specs.Choice.{pick}
 use Rattle.octets.specs.Answers.{output, outAfter}
 use Rattle.octets.specs.Words.{sameBytes}
+use Rattle.octets.specs.declared.Output.{Output}
 use Rattle.unfolding.specs.Unfold.{unfolded}
 use Rattle.tables.specs.Lent.{Lent, brokenIn}
 use Rattle.tables.specs.declared.Found.the-variants.{Nothing}
 use Rattle.reading.specs.Answers.{readText, readingOf, textAfter}
 use Rattle.reading.specs.Lent.{roomIn, readInto, left}
-use Rattle.folding.specs.Answers.{foldAnswer, foldOut}
+use Rattle.folding.specs.Answers.{lineAnswer, foldAnswer, foldOut}
 use Rattle.quoting.specs.Answers.{quoteAnswer, quoteOut}
 use Rattle.escapes.specs.Text.{textOf, asValue}
 use Rattle.escapes.specs.Answers.{textAnswer, textOut, valueAnswer, valueOut}
@@ -41,12 +42,15 @@ module _ (feed : List ℕ) (b : Lent) where
   unfolding readingOf
   within feed-fits text-fits = rw (le-leb (length feed) 1048576 feed-fits, le-leb (length (unfolded feed)) (length (b .text)) text-fits)
 
--- either fold: "Order in a fold: 1, 11, 12, 13"
-module _ (fold : List ℕ → List ℕ) (line old : List ℕ) (over : 1048576 < length line) where
-  pub line-too-long : threeNumbers (foldAnswer fold line (length old)) ≡ 1 ∷ 0 ∷ 0 ∷ []
+-- either fold, whatever bytes it takes: "Order in a fold: 1, 11, 12, 13", and 19 in the place of 12
+module _ (number : ℕ) (sound : List ℕ → ℕ) (fold : List ℕ → List ℕ) (line old : List ℕ) (over : 1048576 < length line) where
+  abbrev checked : List ℕ → Output
+  checked l = lineAnswer number (sound l) l
+
+  pub line-too-long : threeNumbers (foldAnswer checked fold line (length old)) ≡ 1 ∷ 0 ∷ 0 ∷ []
   line-too-long = rw (lt-leb (length line) 1048576 over)
 
-  pub line-too-long-leaves : foldOut fold line old ≡ old
+  pub line-too-long-leaves : foldOut checked fold line old ≡ old
   line-too-long-leaves = rw (lt-leb (length line) 1048576 over)
 
 -- quoting: "in quoting, of any bytes: 1, 13"
@@ -99,7 +103,7 @@ module _ (v w : List ℕ) where
       go true = refl
       go false = refl
 
--- the writer: behind 14, 15 and 12, and before 13: "then 1, 13"
+-- the writer: behind 14, 15 and 19, and before 13: "then 1, 13"
 module _ (b : Lent) (old : List ℕ) (sound : brokenIn b ≡ Nothing) (writable : judgedIn b ≡ Judged.Writable) (over : 1048576 < length (writtenIn b)) where
   pub output-too-long : threeNumbers (writeAnswer b (length old)) ≡ 1 ∷ 0 ∷ 0 ∷ []
   unfolding writeAnswer

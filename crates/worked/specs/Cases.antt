@@ -25,7 +25,7 @@ use Rattle.parameters.specs.declared.Front.the-variants.{NoParameter, Found}
 use Rattle.tables.specs.Lent.{Lent, lent}
 use Rattle.reading.specs.Lent.{readInto, left}
 use Rattle.reading.specs.declared.Reading.{Reading}
-use Rattle.folding.specs.Answers.{foldAnswer, foldOut}
+use Rattle.folding.specs.Answers.{strictLine, repositoryLine, foldAnswer, foldOut}
 use Rattle.folding.specs.Repository.{repository}
 use Rattle.folding.specs.Strict.{strict}
 use Rattle.quoting.specs.Answers.{quoteAnswer, quoteOut}
@@ -167,8 +167,8 @@ comesOut o out numbers after = sameBytes (threeNumbers o) numbers && sameBytes o
 
 unfoldable pub comesTrue : Claim → Bool
 comesTrue (reads feed before numbers after) = sameBytes (sixNumbers (readInto feed before)) numbers && sameLent (left feed before) after
-comesTrue (folds line before numbers after) = comesOut (foldAnswer repository line (length before)) (foldOut repository line before) numbers after
-comesTrue (foldsStrictly line before numbers after) = comesOut (foldAnswer strict line (length before)) (foldOut strict line before) numbers after
+comesTrue (folds line before numbers after) = comesOut (foldAnswer repositoryLine repository line (length before)) (foldOut repositoryLine repository line before) numbers after
+comesTrue (foldsStrictly line before numbers after) = comesOut (foldAnswer strictLine strict line (length before)) (foldOut strictLine strict line before) numbers after
 comesTrue (quotes value before numbers after) = comesOut (quoteAnswer value (length before)) (quoteOut value before) numbers after
 comesTrue (readsText mode value before numbers after) = comesOut (textAnswer mode value (length before)) (textOut mode value before) numbers after
 comesTrue (writesText text before numbers after) = comesOut (valueAnswer text (length before)) (valueOut text before) numbers after

@@ -4,7 +4,7 @@ use mathlib.Core.List.{List, [], _∷_, _++_}
 use lib.ListN.{replicate}
 use Rattle.tables.specs.Lent.{lent}
 use Rattle.octets.specs.Literals.{bytes}
-use Rattle.worked.specs.Cases.{bytes₀, Case, case, writes}
+use Rattle.worked.specs.Cases.{letters, bytes₀, Case, case, writes}
 
 -- the lines of a component
 abbrev pub lines : List Case
@@ -41,6 +41,31 @@ lines =
     ∷ case "an empty parameter key is written"
     (writes (lent (bytes "AKv") (4294967295 ∷ 1 ∷ 0 ∷ 1 ∷ []) (0 ∷ 1 ∷ 1 ∷ 2 ∷ 1 ∷ []) (0 ∷ 3 ∷ 0 ∷ 1 ∷ 2 ∷ 1 ∷ []))
     (bytes₀ 26) (0 ∷ 0 ∷ 24 ∷ []) (bytes "BEGIN:A\r\nK;=v:v\r\nEND:A\r\n" ++ 194 ∷ 195 ∷ []))
+    ∷ []
+
+-- names with accents: "The writer and every caller of the fold change with it"
+abbrev pub accents : List Case
+accents =
+    -- S, U+00E3 and o
+    case "a value with a tilde is written"
+    (writes (lent (bytes "AKS" ++ 195 ∷ 163 ∷ bytes "o") (4294967295 ∷ 1 ∷ 0 ∷ 1 ∷ []) (0 ∷ 1 ∷ 1 ∷ 2 ∷ 4 ∷ []) [])
+    (bytes₀ 26) (0 ∷ 0 ∷ 24 ∷ []) (bytes "BEGIN:A\r\nK:S" ++ 195 ∷ 163 ∷ (bytes "o\r\nEND:A\r\n" ++ 194 ∷ 195 ∷ [])))
+    -- U+0141 and ukasz: no `:`, `;` or `,` stands in it, so that it is left bare
+    ∷ case "a parameter value with a stroke is written"
+    (writes (lent (bytes "AKvP" ++ 197 ∷ 129 ∷ bytes "ukasz") (4294967295 ∷ 1 ∷ 0 ∷ 1 ∷ []) (0 ∷ 1 ∷ 1 ∷ 2 ∷ 1 ∷ []) (0 ∷ 3 ∷ 1 ∷ 1 ∷ 4 ∷ 7 ∷ []))
+    (bytes₀ 33) (0 ∷ 0 ∷ 31 ∷ []) (bytes "BEGIN:A\r\nK;P=" ++ 197 ∷ 129 ∷ (bytes "ukasz:v\r\nEND:A\r\n" ++ 201 ∷ 202 ∷ [])))
+    -- U+674E, a comma and a letter: "A value is quoted as `quote_special_chars` does"
+    ∷ case "a character of three bytes and a comma are written"
+    (writes (lent (bytes "AKvP" ++ 230 ∷ 157 ∷ 142 ∷ bytes ",a") (4294967295 ∷ 1 ∷ 0 ∷ 1 ∷ []) (0 ∷ 1 ∷ 1 ∷ 2 ∷ 1 ∷ []) (0 ∷ 3 ∷ 1 ∷ 1 ∷ 4 ∷ 5 ∷ []))
+    (bytes₀ 33) (0 ∷ 0 ∷ 31 ∷ []) (bytes "BEGIN:A\r\nK;P=\"" ++ 230 ∷ 157 ∷ 142 ∷ (bytes ",a\":v\r\nEND:A\r\n" ++ 201 ∷ 202 ∷ [])))
+    -- `K:` and 72 letters have 74 octets: "A cut goes at the last character start within the limit of 75 or 74."
+    ∷ case "a character across the cut of a property"
+    (writes (lent (bytes "AK" ++ (letters 72 ++ 195 ∷ 169 ∷ [])) (4294967295 ∷ 1 ∷ 0 ∷ 1 ∷ []) (0 ∷ 1 ∷ 1 ∷ 2 ∷ 74 ∷ []) [])
+    (bytes₀ 99) (0 ∷ 0 ∷ 97 ∷ []) (bytes "BEGIN:A\r\nK:" ++ (letters 72 ++ (bytes "\r\n " ++ 195 ∷ 169 ∷ (bytes "\r\nEND:A\r\n" ++ 187 ∷ 188 ∷ [])))))
+    -- `K;P=` and 71 octets of the value fill the line: the colon is the first of the next
+    ∷ case "a parameter value with an accent up to the cut"
+    (writes (lent (bytes "AKvP" ++ (letters 69 ++ 195 ∷ 169 ∷ [])) (4294967295 ∷ 1 ∷ 0 ∷ 1 ∷ []) (0 ∷ 1 ∷ 1 ∷ 2 ∷ 1 ∷ []) (0 ∷ 3 ∷ 1 ∷ 1 ∷ 4 ∷ 71 ∷ []))
+    (bytes₀ 100) (0 ∷ 0 ∷ 98 ∷ []) (bytes "BEGIN:A\r\nK;P=" ++ (letters 69 ++ 195 ∷ 169 ∷ (bytes "\r\n :v\r\nEND:A\r\n" ++ 188 ∷ 189 ∷ []))))
     ∷ []
 
 -- the order of components and rows

@@ -1,4 +1,4 @@
--- Serves laws only. What the writer refuses: 14 by the table rule, 15 and 12 by the writing rule, with the row, and their order. The buffer stays.
+-- Serves laws only. What the writer refuses: 14 by the table rule, 15 and 19 by the writing rule, with the row, and their order. The buffer stays.
 -- Assumes nothing.
 use mathlib.Core.List.{List, [], _∷_, _++_}
 use Rattle.tables.specs.Lent.{lent}
@@ -121,7 +121,7 @@ unwritableNames =
     ∷ case "a name with a blank to write"
     (writes (lent (bytes "A B") (4294967295 ∷ 1 ∷ 0 ∷ 3 ∷ []) [] [])
     (bytes₀ 3) (15 ∷ 0 ∷ 0 ∷ []) (bytes₀ 3))
-    -- 15 and not 12 (C-44)
+    -- 15 and not 19 (C-44)
     ∷ case "a name of a byte of 200"
     (writes (lent (200 ∷ []) (4294967295 ∷ 1 ∷ 0 ∷ 1 ∷ []) [] [])
     (bytes₀ 3) (15 ∷ 0 ∷ 0 ∷ []) (bytes₀ 3))
@@ -176,44 +176,52 @@ unwritableValues =
     (bytes₀ 3) (15 ∷ 2 ∷ 0 ∷ []) (bytes₀ 3))
     ∷ []
 
--- 12 with its row
-abbrev pub notAsciiCases : List Case
-notAsciiCases =
-    -- "a byte of 128 or more to fold or write"; "in the writer its row"
+-- 19 with its row
+abbrev pub notUtf8Cases : List Case
+notUtf8Cases =
+    -- "19 NotUtf8 replaces 12 in the strict fold and writer, place as 12 had: ... in the writer the row"
     case "a value with a byte of 128"
     (writes (lent (bytes "AK" ++ 128 ∷ []) (4294967295 ∷ 1 ∷ 0 ∷ 1 ∷ []) (0 ∷ 1 ∷ 1 ∷ 2 ∷ 1 ∷ []) [])
-    (bytes₀ 3) (12 ∷ 1 ∷ 0 ∷ []) (bytes₀ 3))
+    (bytes₀ 3) (19 ∷ 1 ∷ 0 ∷ []) (bytes₀ 3))
     -- "Writer rows are numbered through the three tables, components first."
     ∷ case "a parameter value with a byte of 255"
     (writes (lent (bytes "AK" ++ 255 ∷ []) (4294967295 ∷ 1 ∷ 0 ∷ 1 ∷ []) (0 ∷ 1 ∷ 1 ∷ 0 ∷ 1 ∷ []) (0 ∷ 1 ∷ 1 ∷ 1 ∷ 2 ∷ 1 ∷ []))
-    (bytes₀ 3) (12 ∷ 2 ∷ 0 ∷ []) (bytes₀ 3))
+    (bytes₀ 3) (19 ∷ 2 ∷ 0 ∷ []) (bytes₀ 3))
+    -- the property's value is U+00E9, and the parameter's a first byte alone
+    ∷ case "a value of UTF-8 and a parameter value cut off"
+    (writes (lent (bytes "AK" ++ 195 ∷ 169 ∷ 195 ∷ []) (4294967295 ∷ 1 ∷ 0 ∷ 1 ∷ []) (0 ∷ 1 ∷ 1 ∷ 2 ∷ 2 ∷ []) (0 ∷ 1 ∷ 1 ∷ 1 ∷ 4 ∷ 1 ∷ []))
+    (bytes₀ 3) (19 ∷ 2 ∷ 0 ∷ []) (bytes₀ 3))
+    -- the text is UTF-8, but the value is its first byte alone
+    ∷ case "a view that cuts a character"
+    (writes (lent (bytes "AK" ++ 195 ∷ 169 ∷ []) (4294967295 ∷ 1 ∷ 0 ∷ 1 ∷ []) (0 ∷ 1 ∷ 1 ∷ 2 ∷ 1 ∷ []) [])
+    (bytes₀ 3) (19 ∷ 1 ∷ 0 ∷ []) (bytes₀ 3))
     ∷ []
 
 -- which refusal is told
 abbrev pub inTurn : List Case
 inTurn =
     -- "15 winning in one row"
-    case "12 and 15 in one row"
+    case "19 and 15 in one row"
     (writes (lent (bytes "AK" ++ 128 ∷ bytes "\n") (4294967295 ∷ 1 ∷ 0 ∷ 1 ∷ []) (0 ∷ 1 ∷ 1 ∷ 2 ∷ 2 ∷ []) [])
     (bytes₀ 3) (15 ∷ 1 ∷ 0 ∷ []) (bytes₀ 3))
-    -- "then the first row with 15 or 12"
-    ∷ case "a row of 12 before one of 15"
+    -- "then the first row with 15 or 12"; "19 NotUtf8 replaces 12 in the strict fold and writer"
+    ∷ case "a row of 19 before one of 15"
     (writes (lent (bytes "AK" ++ 128 ∷ bytes "\n") (4294967295 ∷ 1 ∷ 0 ∷ 1 ∷ []) (0 ∷ 1 ∷ 1 ∷ 2 ∷ 1 ∷ 0 ∷ 1 ∷ 1 ∷ 3 ∷ 1 ∷ []) [])
-    (bytes₀ 3) (12 ∷ 1 ∷ 0 ∷ []) (bytes₀ 3))
+    (bytes₀ 3) (19 ∷ 1 ∷ 0 ∷ []) (bytes₀ 3))
     -- the same
-    ∷ case "a row of 15 before one of 12"
+    ∷ case "a row of 15 before one of 19"
     (writes (lent (bytes "AK" ++ 128 ∷ bytes "\n") (4294967295 ∷ 1 ∷ 0 ∷ 1 ∷ []) (0 ∷ 1 ∷ 1 ∷ 3 ∷ 1 ∷ 0 ∷ 1 ∷ 1 ∷ 2 ∷ 1 ∷ []) [])
     (bytes₀ 3) (15 ∷ 1 ∷ 0 ∷ []) (bytes₀ 3))
     -- table order, and not the order of writing (C-44)
     ∷ case "a parameter before a later property"
     (writes (lent (bytes "AK" ++ 128 ∷ bytes "\n") (4294967295 ∷ 1 ∷ 0 ∷ 1 ∷ []) (0 ∷ 1 ∷ 1 ∷ 0 ∷ 1 ∷ 0 ∷ 1 ∷ 1 ∷ 3 ∷ 1 ∷ []) (0 ∷ 1 ∷ 1 ∷ 1 ∷ 2 ∷ 1 ∷ []))
     (bytes₀ 3) (15 ∷ 2 ∷ 0 ∷ []) (bytes₀ 3))
-    -- "14 for the first such row; then the first row with 15 or 12"
+    -- "14 for the first such row; then the first row with 15 or 12", which 19 replaces
     ∷ case "a row of 15 before one of 14"
     (writes (lent (bytes "AK") (4294967295 ∷ 1 ∷ 0 ∷ 1 ∷ []) (0 ∷ 1 ∷ 0 ∷ 0 ∷ 1 ∷ 1 ∷ 1 ∷ 1 ∷ 0 ∷ 1 ∷ []) [])
     (bytes₀ 3) (14 ∷ 2 ∷ 0 ∷ []) (bytes₀ 3))
     -- the same
-    ∷ case "a row of 12 before one of 14"
+    ∷ case "a row of 19 before one of 14"
     (writes (lent (bytes "AK" ++ 128 ∷ []) (4294967295 ∷ 1 ∷ 0 ∷ 1 ∷ []) (0 ∷ 1 ∷ 1 ∷ 2 ∷ 1 ∷ []) (1 ∷ 1 ∷ 1 ∷ 0 ∷ 0 ∷ 0 ∷ []))
     (bytes₀ 3) (14 ∷ 2 ∷ 0 ∷ []) (bytes₀ 3))
     -- "then 1, 13"
@@ -225,7 +233,7 @@ inTurn =
     (writes (lent (bytes "A") (4294967295 ∷ 1 ∷ 1 ∷ 0 ∷ []) [] [])
     [] (15 ∷ 0 ∷ 0 ∷ []) [])
     -- the same
-    ∷ case "12 and no buffer"
+    ∷ case "19 and no buffer"
     (writes (lent (bytes "AK" ++ 128 ∷ []) (4294967295 ∷ 1 ∷ 0 ∷ 1 ∷ []) (0 ∷ 1 ∷ 1 ∷ 2 ∷ 1 ∷ []) [])
-    [] (12 ∷ 1 ∷ 0 ∷ []) [])
+    [] (19 ∷ 1 ∷ 0 ∷ []) [])
     ∷ []

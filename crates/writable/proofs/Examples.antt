@@ -5,12 +5,14 @@ use Prim.Native.Nat.{ℕ}
 use lib.ListN.{length}
 use Rattle.octets.specs.Runs.{run}
 use Rattle.octets.specs.Words.{startsWord}
+use Rattle.characters.specs.Units.{unitsFrom}
+use Rattle.characters.specs.Utf8.{soundLen}
 use Rattle.parameters.specs.Values.{quotedLen, furtherAfter, formOf}
 use Rattle.tables.specs.Rows.{tabulate, componentFrom, propertyFrom, parameterFrom}
 use Rattle.tables.specs.Lent.{lent}
 use Rattle.writable.specs.WritingRule.{componentVerdict, propertyVerdict, parameterVerdict, judgedFrom, judgedIn}
 use Rattle.writable.specs.declared.Verdict.{Verdict}
-use Rattle.writable.specs.declared.Verdict.the-variants.{Fine, Unwritable, NotAscii}
+use Rattle.writable.specs.declared.Verdict.the-variants.{Fine, Unwritable, NotUtf8}
 use Rattle.writable.specs.declared.Judged.{Judged}
 
 -- a name or a key, a value, and what a row of them is found to be
@@ -58,7 +60,7 @@ components =
     ∷ row (65 ∷ 200 ∷ []) [] Unwritable
     ∷ []
 
--- no key BEGIN or END in any case; a value may be empty and may hold quotes; a break wins over a byte of 128 or more, and so does a key
+-- no key BEGIN or END in any case; a value may be empty and may hold quotes, and accents; a break wins over a value that is not UTF-8, and so does a key
 abbrev properties : List Case
 properties =
     row [] k Unwritable
@@ -70,7 +72,10 @@ properties =
     ∷ row k (34 ∷ 58 ∷ 127 ∷ []) Fine
     ∷ row k (97 ∷ 13 ∷ []) Unwritable
     ∷ row k (10 ∷ 97 ∷ []) Unwritable
-    ∷ row k (97 ∷ 128 ∷ []) NotAscii
+    ∷ row k (83 ∷ 195 ∷ 163 ∷ 111 ∷ []) Fine
+    ∷ row k (97 ∷ 128 ∷ []) NotUtf8
+    ∷ row k (83 ∷ 195 ∷ []) NotUtf8
+    ∷ row k (195 ∷ 163 ∷ 13 ∷ []) Unwritable
     ∷ row k (200 ∷ 10 ∷ []) Unwritable
     ∷ row k (13 ∷ 200 ∷ []) Unwritable
     ∷ row begin (200 ∷ []) Unwritable
@@ -92,8 +97,10 @@ parameters =
     ∷ row k (34 ∷ 97 ∷ 34 ∷ 44 ∷ 34 ∷ 98 ∷ 34 ∷ 44 ∷ []) Unwritable
     ∷ row k (34 ∷ 97 ∷ 34 ∷ 44 ∷ 34 ∷ 98 ∷ 34 ∷ []) Fine
     ∷ row k (34 ∷ 97 ∷ 34 ∷ 44 ∷ 34 ∷ 13 ∷ 34 ∷ []) Unwritable
-    ∷ row k (34 ∷ 97 ∷ 34 ∷ 44 ∷ 34 ∷ 200 ∷ 34 ∷ []) NotAscii
-    ∷ row k (200 ∷ []) NotAscii
+    ∷ row k (34 ∷ 97 ∷ 34 ∷ 44 ∷ 34 ∷ 200 ∷ 34 ∷ []) NotUtf8
+    ∷ row k (197 ∷ 129 ∷ []) Fine
+    ∷ row k (34 ∷ 97 ∷ 34 ∷ 44 ∷ 34 ∷ 230 ∷ 157 ∷ 142 ∷ 34 ∷ []) Fine
+    ∷ row k (200 ∷ []) NotUtf8
     ∷ row k (200 ∷ 34 ∷ []) Unwritable
     ∷ row k (97 ∷ 13 ∷ []) Unwritable
     ∷ []
@@ -103,11 +110,11 @@ unfolding run
 named = refl
 
 valued : map property properties ≡ map answer properties
-unfolding run startsWord
+unfolding run startsWord unitsFrom soundLen
 valued = refl
 
 quoted : map parameter parameters ≡ map answer parameters
-unfolding run quotedLen furtherAfter formOf
+unfolding run quotedLen furtherAfter formOf unitsFrom soundLen
 quoted = refl
 
 -- in the text `K`, LF, 200: a component; properties with the value `K`, LF or 200; parameters without a value and with these
@@ -143,9 +150,9 @@ judged t = t .told
 abbrev cases : List Tables
 cases =
     tables top (line 0) (bare ++ given 0) Judged.Writable
-    ∷ tables (top ++ top) (line 0 ++ line 2) (given 1) (Judged.NotAscii 3)
+    ∷ tables (top ++ top) (line 0 ++ line 2) (given 1) (Judged.NotUtf8 3)
     ∷ tables (top ++ top) (line 0 ++ line 1) (given 2) (Judged.Unwritable 3)
-    ∷ tables (top ++ top) (line 0 ++ line 0) (given 2 ++ given 1) (Judged.NotAscii 4)
+    ∷ tables (top ++ top) (line 0 ++ line 0) (given 2 ++ given 1) (Judged.NotUtf8 4)
     ∷ tables top (line 0) (bare ++ given 1) (Judged.Unwritable 3)
     ∷ tables (top ++ (0 ∷ 2 ∷ 1 ∷ 1 ∷ [])) (line 2) (given 1) (Judged.Unwritable 1)
     ∷ tables (0 ∷ 2 ∷ 3 ∷ 1 ∷ []) (line 2) [] (Judged.Unwritable 0)
@@ -153,5 +160,5 @@ cases =
     ∷ []
 
 told : map judge cases ≡ map judged cases
-unfolding run startsWord quotedLen furtherAfter formOf tabulate judgedFrom judgedIn
+unfolding run startsWord quotedLen furtherAfter formOf unitsFrom soundLen tabulate judgedFrom judgedIn
 told = refl

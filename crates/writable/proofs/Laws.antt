@@ -7,13 +7,15 @@ use native.Mathlib.Nat.{add-zero, add-assoc}
 use native.Mathlib.Omega.{arith}
 use lib.ListN.{length, drop}
 use lib.Dec.{leb}
-use borrow.Author.Tests.{lt-ltb, le-ltb, leb-true, ne-eqb, not-true, not-false}
-use Rattle.octets.specs.Bytes.{cr, lf, quote, capital, common, keyByte, other}
+use borrow.Author.Tests.{lt-ltb, le-ltb, le-leb, lt-leb, leb-true, ne-eqb, not-true, not-false}
+use Rattle.octets.specs.Bytes.{cr, lf, quote, capital, common, keyByte, other, ascii}
 use Rattle.octets.specs.Runs.{only}
 use Rattle.octets.specs.Keys.{reserved}
+use Rattle.octets.proofs.Bools.{both}
+use Rattle.octets.proofs.Runs.{only-both}
 use Rattle.parameters.specs.Values.{isList}
-use Rattle.folding.specs.Answers.{ascii}
-use Rattle.folding.proofs.Answers.{both}
+use Rattle.characters.specs.Utf8.{utf8Run, isUtf8}
+use Rattle.characters.proofs.Utf8.{ascii-utf8}
 use Rattle.tables.specs.Rows.{componentSize, propertySize, componentAt, propertyAt, rowsOf}
 use Rattle.tables.specs.Lent.{Lent, componentsIn, propertiesIn, parametersIn}
 use Rattle.tables.proofs.Laws.{length-rows, row-here, rows-end}
@@ -24,35 +26,36 @@ use Rattle.writable.specs.declared.Judged.{Judged}
 -- ---- values
 
 module _ (value : List ℕ) where
-  pub fine-value : only clean value ≡ true → Verdict.Fine ≡ verdict (only noBreak value) (only ascii value)
-  fine-value e = go (only noBreak value) (only ascii value) (sym (both noBreak ascii value) ∙ e)
-    where
-      go : (a b : Bool) → a && b ≡ true → Verdict.Fine ≡ verdict a b
-      go true true e = refl
-      go true false e = cc
-      go false b e = cc
+  pub fine-value : only clean value ≡ true → Verdict.Fine ≡ verdict (only noBreak value) (isUtf8 value)
+  fine-value e =
+      let b = both (only noBreak value) (only ascii value) (sym (only-both noBreak ascii value) ∙ e) in
+      rw (b .0, ascii-utf8 value (b .1)) refl
 
   module _ {r n : Bool} (no-cr : r ≡ only (other cr) value) (no-lf : n ≡ only (other lf) value) where
     unbroken : r && n ≡ only noBreak value
-    unbroken = cc (both (other cr) (other lf) value)
+    unbroken = cc (only-both (other cr) (other lf) value)
 
-    pub not-ascii : only clean value ≡ false → r && n ≡ true → Verdict.NotAscii ≡ verdict (only noBreak value) (only ascii value)
-    not-ascii e t =
-        let whole : only noBreak value ≡ true = sym unbroken ∙ t in
-        let off : only ascii value ≡ false = rw whole at (sym (both noBreak ascii value) ∙ e) in
-        rw (whole, off)
+    pub has-break : not (r && n) ≡ true → Verdict.Unwritable ≡ verdict (only noBreak value) (isUtf8 value)
+    has-break t = rw (sym unbroken ∙ not-true (r && n) t) refl
 
-    pub has-break : r && n ≡ false → Verdict.Unwritable ≡ verdict (only noBreak value) (only ascii value)
-    has-break t = rw (sym unbroken ∙ t)
+    module _ (t : not (r && n) ≡ false) {m : ℕ} (e : m ≡ utf8Run value) where
+      whole : only noBreak value ≡ true
+      whole = sym unbroken ∙ not-false (r && n) t
 
-  pub empty-value : length value ≡ 0 → Verdict.Unwritable ≡ verdict (presentFits value) (only ascii value)
+      pub not-utf8 : m < length value → Verdict.NotUtf8 ≡ verdict (only noBreak value) (isUtf8 value)
+      not-utf8 h = rw (whole, lt-leb (length value) (utf8Run value) (omega arith)) refl
+
+      pub all-utf8 : length value ≤ m → Verdict.Fine ≡ verdict (only noBreak value) (isUtf8 value)
+      all-utf8 h = rw (whole, le-leb (length value) (utf8Run value) (omega arith)) refl
+
+  pub empty-value : length value ≡ 0 → Verdict.Unwritable ≡ verdict (presentFits value) (isUtf8 value)
   empty-value e = rw (le-ltb 0 (length value) (omega arith))
 
   module _ {q : Bool} (is : q ≡ only (other quote) value || isList value) where
-    pub stray-quote : not q ≡ true → Verdict.Unwritable ≡ verdict (presentFits value) (only ascii value)
+    pub stray-quote : not q ≡ true → Verdict.Unwritable ≡ verdict (presentFits value) (isUtf8 value)
     stray-quote t = rw (sym is ∙ not-true q t, and-false (only noBreak value), and-false (someByte value))
 
-    pub sound-quotes : (length value ≡ 0 → ⊥) → not q ≡ false → verdict (only noBreak value) (only ascii value) ≡ verdict (presentFits value) (only ascii value)
+    pub sound-quotes : (length value ≡ 0 → ⊥) → not q ≡ false → verdict (only noBreak value) (isUtf8 value) ≡ verdict (presentFits value) (isUtf8 value)
     sound-quotes full t = rw (lt-ltb 0 (length value) (omega arith), sym is ∙ not-false q t, and-true (only noBreak value))
 
 -- ---- what is seen at a look
@@ -92,12 +95,12 @@ module _ {r k : Bool} (is : r ≡ k) (a b : Bool) where
 abbrev orElse : Judged → Judged → Judged
 orElse Judged.Writable rest = rest
 orElse (Judged.Unwritable row) rest = Judged.Unwritable row
-orElse (Judged.NotAscii row) rest = Judged.NotAscii row
+orElse (Judged.NotUtf8 row) rest = Judged.NotUtf8 row
 
 refused : (t rest : Judged) → (t ≡ Judged.Writable → ⊥) → t ≡ orElse t rest
 refused Judged.Writable rest f = absurd (f refl)
 refused (Judged.Unwritable row) rest f = refl
-refused (Judged.NotAscii row) rest f = refl
+refused (Judged.NotUtf8 row) rest f = refl
 
 module _ {A : Type 0} (verdictOf : A → Verdict) where
   pub then : (row : ℕ) (xs : List A) (rest : Judged) → judgedFrom verdictOf row xs rest ≡ orElse (judgedFrom verdictOf row xs Judged.Writable) rest
@@ -108,7 +111,7 @@ module _ {A : Type 0} (verdictOf : A → Verdict) where
       go : (v : Verdict) (b : Judged) {a : Judged} → a ≡ orElse b rest → judgedBy v row a ≡ orElse (judgedBy v row b) rest
       go Verdict.Fine b e = e
       go Verdict.Unwritable b e = refl
-      go Verdict.NotAscii b e = refl
+      go Verdict.NotUtf8 b e = refl
 
   module _ (size : ℕ) (at : List ℕ → ℕ → A) (table : List ℕ) (first : ℕ) where
     -- what all rows of a table give, numbered from `first` on
@@ -145,8 +148,8 @@ module _ {A : Type 0} {verdictOf : A → Verdict} {size : ℕ} {at : List ℕ �
   pub unwritable : v ≡ Verdict.Unwritable → Judged.Unwritable (first + i) ≡ tableJudged verdictOf size at table first
   unwritable e = rw e at turned
 
-  pub off-ascii : v ≡ Verdict.NotAscii → Judged.NotAscii (first + i) ≡ tableJudged verdictOf size at table first
-  off-ascii e = rw e at turned
+  pub off-utf8 : v ≡ Verdict.NotUtf8 → Judged.NotUtf8 (first + i) ≡ tableJudged verdictOf size at table first
+  off-utf8 e = rw e at turned
 
 -- ---- the three tables
 

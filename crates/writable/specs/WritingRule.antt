@@ -1,4 +1,4 @@
--- The writing rule of document 01, "Writing and trees": what each row must be like to be written, and the first row that is not.
+-- The writing rule of document 01, "Writing and trees", and of document 02, request 4: what each row must be like to be written, and the first row that is not.
 -- Assumes nothing.
 use Prim.Native.Nat.{ℕ, _+_}
 use mathlib.Core.Bool.{Bool, true, not, _&&_, _||_}
@@ -6,12 +6,12 @@ use mathlib.Core.List.{List, [], _∷_}
 use lib.ListN.{length}
 use lib.Dec.{ltb}
 use Rattle.octets.specs.Choice.{pick}
-use Rattle.octets.specs.Bytes.{cr, lf, quote, keyByte, other}
+use Rattle.octets.specs.Bytes.{cr, lf, quote, keyByte, other, ascii}
 use Rattle.octets.specs.Runs.{only}
 use Rattle.octets.specs.Keys.{reserved}
 use Rattle.octets.specs.Views.{viewed}
 use Rattle.parameters.specs.Values.{isList}
-use Rattle.folding.specs.Answers.{ascii}
+use Rattle.characters.specs.Utf8.{isUtf8}
 use Rattle.tables.specs.Trees.{Value, absent, present, valueOf}
 use Rattle.tables.specs.Lent.{Lent, componentsIn, propertiesIn, parametersIn}
 use Rattle.tables.specs.declared.ComponentRow.{ComponentRow}
@@ -36,7 +36,7 @@ keyFits key = nameFits key && not (reserved key)
 abbrev pub noBreak : ℕ → Bool
 noBreak x = other cr x && other lf x
 
--- a byte that stops no value
+-- a byte that stops no value, whatever stands beside it
 abbrev pub clean : ℕ → Bool
 clean x = noBreak x && ascii x
 
@@ -48,13 +48,14 @@ abbrev pub valueFits : Value → Bool
 valueFits absent = true
 valueFits (present value) = presentFits value
 
-abbrev pub valueAscii : Value → Bool
-valueAscii absent = true
-valueAscii (present value) = only ascii value
+-- a value is UTF-8 by itself. That makes its line UTF-8, since keys and what stands between them and values is ASCII
+abbrev pub valueUtf8 : Value → Bool
+valueUtf8 absent = true
+valueUtf8 (present value) = isUtf8 value
 
--- what a row is found to be: 15 wins over 12 in one row
+-- what a row is found to be: 15 wins over 19 in one row
 abbrev pub verdict : Bool → Bool → Verdict
-verdict fits plain = pick fits (pick plain Verdict.Fine Verdict.NotAscii) Verdict.Unwritable
+verdict fits whole = pick fits (pick whole Verdict.Fine Verdict.NotUtf8) Verdict.Unwritable
 
 module _ (text : List ℕ) where
   abbrev pub componentVerdict : ComponentRow → Verdict
@@ -64,17 +65,17 @@ module _ (text : List ℕ) where
   propertyVerdict p =
       verdict
       (keyFits (viewed text (p .«key_start») (p .«key_len»)) && only noBreak (viewed text (p .«value_start») (p .«value_len»)))
-      (only ascii (viewed text (p .«value_start») (p .«value_len»)))
+      (isUtf8 (viewed text (p .«value_start») (p .«value_len»)))
 
   abbrev pub parameterVerdict : ParameterRow → Verdict
   parameterVerdict p =
-      verdict (only keyByte (viewed text (p .«key_start») (p .«key_len»)) && valueFits (valueOf text p)) (valueAscii (valueOf text p))
+      verdict (only keyByte (viewed text (p .«key_start») (p .«key_len»)) && valueFits (valueOf text p)) (valueUtf8 (valueOf text p))
 
 -- a row that is not fine is told with its number; else those behind it are judged
 abbrev pub judgedBy : Verdict → ℕ → Judged → Judged
 judgedBy Verdict.Fine row rest = rest
 judgedBy Verdict.Unwritable row rest = Judged.Unwritable row
-judgedBy Verdict.NotAscii row rest = Judged.NotAscii row
+judgedBy Verdict.NotUtf8 row rest = Judged.NotUtf8 row
 
 -- the first of rows numbered from `row` on that is not fine; behind them `rest` is told
 unfoldable pub judgedFrom : {A : Type 0} → (A → Verdict) → ℕ → List A → Judged → Judged

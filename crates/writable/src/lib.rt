@@ -7,7 +7,7 @@ ghost use Rattle.octets.specs.Bytes.{quote, keyByte, other};
 ghost use Rattle.octets.specs.Runs.{only};
 ghost use Rattle.octets.specs.Views.{viewed};
 ghost use Rattle.parameters.specs.Values.{isList};
-ghost use Rattle.folding.specs.Answers.{ascii};
+ghost use Rattle.characters.specs.Utf8.{isUtf8};
 ghost use Rattle.tables.specs.Rows.{propertySize, parameterSize};
 ghost use Rattle.tables.specs.Lent.{lent, componentsIn, propertiesIn, parametersIn};
 ghost use Rattle.writable.specs.WritingRule.{nameFits, keyFits, noBreak, clean, presentFits, verdict, componentVerdict, propertyVerdict, parameterVerdict, judgedFrom, judgedIn};
@@ -20,14 +20,14 @@ use tables::PropertyRow;
 pub enum Verdict {
     Fine,
     Unwritable,
-    NotAscii,
+    NotUtf8,
 }
 
 // What the tables are found to be: the first row that cannot be written, and why.
 pub enum Judged {
     Writable,
     Unwritable(usize),
-    NotAscii(usize),
+    NotUtf8(usize),
 }
 
 // Whether a part of the text is seen at a look to be made of capital letters, as most names and keys are.
@@ -80,20 +80,6 @@ fn key_fits(text: &[u8], start: u32, len: u32) -> bool
     name_fits(text, start, len)
 }
 
-// Whether no byte is a CR or an LF and every byte is below 128. The loop has no branch, so that it becomes vector code.
-fn all_clean(value: &[u8]) -> bool
-    ensures { λ r. ⌜ r ≡ only clean (now (value .entry)) ⌝ }
-{
-    let mut fine = true;
-    let mut i: usize = 0;
-    while i < value.len() {
-        let b = value[i];
-        fine = fine & ((!(b == b'\r') & !(b == b'\n')) & (b <= 127));
-        i += 1;
-    }
-    fine
-}
-
 // Whether no byte of the value is b.
 fn lacks(value: &[u8], b: u8) -> bool
     ensures { λ r. ⌜ r ≡ only (other b) (now (value .entry)) ⌝ }
@@ -103,19 +89,19 @@ fn lacks(value: &[u8], b: u8) -> bool
 
 // What a value makes of its row. What is wrong is looked for only where something is.
 fn value_verdict(text: &[u8], start: u32, len: u32) -> Verdict
-    ensures { λ r. ⌜ r ≡ verdict (only noBreak (viewed (now (text .entry)) start len)) (only ascii (viewed (now (text .entry)) start len)) ⌝ }
+    ensures { λ r. ⌜ r ≡ verdict (only noBreak (viewed (now (text .entry)) start len)) (isUtf8 (viewed (now (text .entry)) start len)) ⌝ }
 {
     if is_common(text, start, len) {
         return Verdict::Fine;
     }
     let value = octets::view(text, start as usize, len as usize);
-    if all_clean(value) {
-        return Verdict::Fine;
+    if !(lacks(value, b'\r') & lacks(value, b'\n')) {
+        return Verdict::Unwritable;
     }
-    if lacks(value, b'\r') & lacks(value, b'\n') {
-        return Verdict::NotAscii;
+    if characters::utf8_run(value) < value.len() {
+        return Verdict::NotUtf8;
     }
-    Verdict::Unwritable
+    Verdict::Fine
 }
 
 // Whether a value has no quote, or is a list of two or more quoted parts.
@@ -130,7 +116,7 @@ fn quotes_fit(value: &[u8]) -> bool
 
 // What the value of a parameter, which is present, makes of its row.
 fn present_verdict(text: &[u8], start: u32, len: u32) -> Verdict
-    ensures { λ r. ⌜ r ≡ verdict (presentFits (viewed (now (text .entry)) start len)) (only ascii (viewed (now (text .entry)) start len)) ⌝ }
+    ensures { λ r. ⌜ r ≡ verdict (presentFits (viewed (now (text .entry)) start len)) (isUtf8 (viewed (now (text .entry)) start len)) ⌝ }
 {
     let value = octets::view(text, start as usize, len as usize);
     if value.len() == 0 {
@@ -186,8 +172,8 @@ fn judge_components(text: &[u8], components: &[u32]) -> Judged
             Verdict::Unwritable => {
                 return Judged::Unwritable(i);
             }
-            Verdict::NotAscii => {
-                return Judged::NotAscii(i);
+            Verdict::NotUtf8 => {
+                return Judged::NotUtf8(i);
             }
         }
     }
@@ -209,8 +195,8 @@ fn judge_properties(text: &[u8], properties: &[u32], first: usize) -> Judged
             Verdict::Unwritable => {
                 return Judged::Unwritable(first + i);
             }
-            Verdict::NotAscii => {
-                return Judged::NotAscii(first + i);
+            Verdict::NotUtf8 => {
+                return Judged::NotUtf8(first + i);
             }
         }
     }
@@ -232,15 +218,15 @@ fn judge_parameters(text: &[u8], parameters: &[u32], first: usize) -> Judged
             Verdict::Unwritable => {
                 return Judged::Unwritable(first + i);
             }
-            Verdict::NotAscii => {
-                return Judged::NotAscii(first + i);
+            Verdict::NotUtf8 => {
+                return Judged::NotUtf8(first + i);
             }
         }
     }
     Judged::Writable
 }
 
-// The first row, numbered through the three tables, that breaks the writing rule or has a byte of 128 or more to write.
+// The first row, numbered through the three tables, that breaks the writing rule or has a value to write that is not UTF-8.
 pub fn judge(text: &[u8], components: &[u32], properties: &[u32], parameters: &[u32]) -> Judged
     ensures { λ r. ⌜ r ≡ judgedIn (lent (now (text .entry)) (now (components .entry)) (now (properties .entry)) (now (parameters .entry))) ⌝ }
 {

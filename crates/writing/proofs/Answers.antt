@@ -2,7 +2,7 @@
 use mathlib.Core.Path.{_≡_, _∙_}
 use Prim.Native.Nat.{ℕ}
 use lib.ListN.{length}
-use Rattle.octets.specs.Answers.{notAscii, badTable, unwritable, output}
+use Rattle.octets.specs.Answers.{notUtf8, badTable, unwritable, output}
 use Rattle.octets.specs.declared.Output.{Output}
 use Rattle.tables.specs.Lent.{Lent, brokenIn}
 use Rattle.tables.specs.declared.Found.the-variants.{Nothing, At}
@@ -21,9 +21,9 @@ module _ (b : Lent) (room : ℕ) {r : Output} where
     unfolding writeAnswer
     unwritable-row e p = p ∙ rw (none, e)
 
-    pub row-not-ascii : {row : ℕ} → judgedIn b ≡ Judged.NotAscii row → r ≡ output notAscii row 0 → r ≡ writeAnswer b room
+    pub row-not-utf8 : {row : ℕ} → judgedIn b ≡ Judged.NotUtf8 row → r ≡ output notUtf8 row 0 → r ≡ writeAnswer b room
     unfolding writeAnswer
-    row-not-ascii e p = p ∙ rw (none, e)
+    row-not-utf8 e p = p ∙ rw (none, e)
 
     pub fitting : judgedIn b ≡ Judged.Writable → r ≡ byLength (length (writtenIn b)) room → r ≡ writeAnswer b room
     unfolding writeAnswer

@@ -5,7 +5,7 @@ use mathlib.Core.List.{List}
 use lib.ListN.{length}
 use lib.Dec.{leb}
 use Rattle.octets.specs.Choice.{pick}
-use Rattle.octets.specs.Answers.{longest, tooLong, notAscii, badTable, unwritable, output, roomAnswer, outAfter}
+use Rattle.octets.specs.Answers.{longest, tooLong, notUtf8, badTable, unwritable, output, roomAnswer, outAfter}
 use Rattle.octets.specs.declared.Output.{Output}
 use Rattle.tables.specs.Lent.{Lent, brokenIn, treesIn}
 use Rattle.tables.specs.TableRule.{byTableRule}
@@ -21,11 +21,11 @@ writtenIn b = written (treesIn b)
 abbrev pub notWritten : ℕ → Output
 notWritten row = output badTable row 0
 
--- then the first row with 15 or 12
+-- then the first row with 15 or 19
 abbrev pub byWritingRule : Judged → Output → Output
 byWritingRule Judged.Writable next = next
 byWritingRule (Judged.Unwritable row) next = output unwritable row 0
-byWritingRule (Judged.NotAscii row) next = output notAscii row 0
+byWritingRule (Judged.NotUtf8 row) next = output notUtf8 row 0
 
 -- then 1 and 13
 abbrev pub byLength : ℕ → ℕ → Output

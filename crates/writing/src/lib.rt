@@ -4,6 +4,8 @@ ghost use mathlib.Core.Bool.{true};
 ghost use mathlib.Core.List.{_++_};
 ghost use Prim.Native.Nat.{_+_, _≤_, _<_, _/_};
 ghost use lib.ListN.{length};
+ghost use Rattle.octets.specs.Bytes.{ascii};
+ghost use Rattle.octets.specs.Runs.{only};
 ghost use Rattle.octets.specs.Laid.{counted, Lays};
 ghost use Rattle.octets.specs.Answers.{output, outAfter};
 ghost use Rattle.tables.specs.Rows.{propertySize};
@@ -40,6 +42,7 @@ pub struct Written {
 
 // Lays the line that opens or closes a component over the front of what is left of the output.
 fn write_mark(mark: &[u8], name: &[u8], out: &mut [u8], at: usize) -> usize
+    requires { ⌜ only ascii (now mark) ≡ true ⌝ }
     ensures { λ r. ⌜ Lays at (closedLine (now (mark .entry) ++ now (name .entry))) (now (out .entry)) (now (out .exit)) r ⌝ }
 {
     let from = octets::least(at, out.len());
@@ -372,7 +375,7 @@ pub fn write_components(
     }
     match writable::judge(text, components, properties, parameters) {
         Judged::Unwritable(row) => refuse(octets::UNWRITABLE, row),
-        Judged::NotAscii(row) => refuse(octets::NOT_ASCII, row),
+        Judged::NotUtf8(row) => refuse(octets::NOT_UTF8, row),
         Judged::Writable => write_fitting(text, components, properties, parameters, out),
     }
 }

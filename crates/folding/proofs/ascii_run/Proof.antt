@@ -4,7 +4,7 @@ use Prim.Native.Nat.{_-_}
 use borrow.Author.Tests.{le-leb, lt-leb}
 use lib.ListN.{length}
 use Rattle.octets.proofs.Runs.{Ran, ran-start, ran-all, ran-more, ran-end}
-use Rattle.folding.specs.Answers.{ascii}
+use Rattle.octets.specs.Bytes.{ascii}
 use Rattle.folding.proofs.ascii_run.Statement.{statement}
 use Rattle.folding.proofs.ascii_run.Tie as tie
 

@@ -1,11 +1,15 @@
 -- `folding::fold_line`: a refusal of the line, a refusal for room, or the line folded.
 use borrow.Author.Needs.{needs}
 use lib.ListN.{length}
+use Rattle.octets.specs.Bytes.{ascii}
+use Rattle.octets.specs.Runs.{run}
+use Rattle.octets.specs.Answers.{notAscii}
 use Rattle.octets.proofs.Answers.{kept, written}
 use Rattle.octets.proofs.Writing.{from-front}
 use Rattle.folding.specs.Repository.{repository}
 use Rattle.folding.proofs.Repository.{repository-length}
-use Rattle.folding.proofs.Answers.{refused, folded}
+use Rattle.folding.specs.Answers.{repositoryLine}
+use Rattle.folding.proofs.Answers.{short-enough, refused, folded}
 use Rattle.folding.proofs.fold_line.Statement.{statement}
 use Rattle.folding.proofs.fold_line.Tie as tie
 
@@ -25,15 +29,15 @@ after-room-for c = c .before .before .before .before .before .before
 abbrev after-fold-repository : tie.After-slice-known2 → tie.After-fold-repository
 after-fold-repository c = after-room-for c .before .before
 
-check-line-requires : tie.Need-check-line-requires
-check-line-requires c κs = search needs
+check-repository-requires : tie.Need-check-repository-requires
+check-repository-requires c κs = search needs
 
 returns : tie.Need-returns
 returns c =
     let a = start-of-refusal c .args in
     let line = a .line .now in
     let old = a .out .now in
-    kept (refused repository line (length old) (c .before .before .check-line .ensures) (c .if1 .taken)) (repository line) old (c .if1 .taken)
+    kept (refused repositoryLine repository line (length old) (c .before .before .check-repository .ensures) (c .if1 .taken)) (repository line) old (c .if1 .taken)
 
 slice-aggregate-fold-repository : tie.Need-slice-aggregate-fold-repository
 slice-aggregate-fold-repository c = search needs
@@ -49,7 +53,7 @@ returns-2 c =
     let s = fine c in
     let line = at-start s .args .line .now in
     let old = at-start s .args .out .now in
-    kept (folded repository line (length old) (s .before .before .check-line .ensures) (s .if1 .left) (repository-length line)
+    kept (folded repositoryLine repository line (length old) (s .before .before .check-repository .ensures) (short-enough notAscii (run ascii line) line) (s .if1 .left) (repository-length line)
     (from-front (c .before .before .before .before .fold-repository .ensures)) (c .before .before .room-for .ensures))
     (repository line) old (c .if2 .taken)
 
@@ -64,7 +68,7 @@ returns-3 c =
     let s = after-fold-repository c .before .before in
     let line = at-start s .args .line .now in
     let old = at-start s .args .out .now in
-    written (folded repository line (length old) (s .before .before .check-line .ensures) (s .if1 .left) (repository-length line)
+    written (folded repositoryLine repository line (length old) (s .before .before .check-repository .ensures) (short-enough notAscii (run ascii line) line) (s .if1 .left) (repository-length line)
     (from-front (after-fold-repository c .fold-repository .ensures)) (after-room-for c .room-for .ensures))
     (repository line) old (c .before .before .before .before .if2 .left) (c .before .before .fold-repository2 .ensures .is)
 
@@ -72,7 +76,7 @@ pub fold-line-spec : {M : Type 1} → statement M
 fold-line-spec =
     tie.close
     (tie.spec
-    check-line-requires
+    check-repository-requires
     returns
     slice-aggregate-fold-repository
     fold-repository-requires

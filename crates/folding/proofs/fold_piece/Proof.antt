@@ -1,13 +1,16 @@
 -- `folding::fold_piece`: what is laid so far, and what is to come, are the piece folded.
 use native.Mathlib.Omega.{arith}
-use mathlib.Core.Path.{_≡_, _∙_}
-use Prim.Native.Nat.{ℕ, _+_, _-_}
+use mathlib.Core.Path.{_≡_, refl, _∙_}
+use mathlib.Core.Bool.{Bool, true, false}
+use Prim.Native.Nat.{ℕ, _+_, _-_, _≤_, _<_}
 use Rattle.folding.specs.declared.Column.{Column}
 use Rattle.folding.specs.declared.Folded.{Folded}
 use lib.ListN.{length}
+use lib.Dec.{leb}
+use borrow.Author.Tests.{leb-true, leb-false}
 use borrow.Author.Needs.{needs}
 use Rattle.octets.proofs.Writing.{from-front}
-use Rattle.folding.proofs.Strict.{Folding, begin, turn, finish}
+use Rattle.folding.proofs.Strict.{Folding, begin, longer, within-line, moves, turn, finish}
 use Rattle.folding.proofs.fold_piece.Statement.{statement}
 use Rattle.folding.proofs.fold_piece.Tie as tie
 
@@ -15,18 +18,30 @@ same : {c : Column} {n left m : ℕ} → c .left ≡ left → n ≡ m
     → _≡_ {A = Folded} (record { column = c; length = n }) (record { column = record { left = left }; length = m })
 same {c} {n} {left} {m} p q = rw (← p, q)
 
+-- a line that takes no character is followed by one that does
+fewer : (size at left k : ℕ) → left < size - at → k ≤ left → (4 ≤ left → 0 < k) → size - (at + k) + (4 - 74) < size - at + (4 - left)
+fewer size at left k h w m = go (leb 4 left) refl
+  where
+    go : (t : Bool) → leb 4 left ≡ t → size - (at + k) + (4 - 74) < size - at + (4 - left)
+    go true t = omega (arith, m (leb-true 4 left t))
+    go false t = omega (arith, leb-false 4 left t)
+
 abbrev Inv-loop : tie.InvT-loop
 Inv-loop piece out₀ left₀ at₀ n₀ out left at n = Folding out₀ out piece left₀ left at n
 
+-- a character has no more than four octets
 abbrev μ-loop : tie.MeasureT-loop
-μ-loop piece out₀ left₀ at₀ n₀ out left at n = length piece - at + (1 - left)
+μ-loop piece out₀ left₀ at₀ n₀ out left at n = length piece - at + (4 - left)
 
 abbrev At : (tie.InvT-loop → tie.MeasureT-loop → Type 0) → Type 0
 At place = place Inv-loop μ-loop
 
 -- what the proofs look back to
-abbrev in-loop : At tie.After-slice-known2 → At tie.In-loop
-in-loop c = c .before .before .before .before .before
+abbrev after-start : At tie.After-slice-known2 → At tie.After-start-within
+after-start c = c .before .before .before .before .before
+
+abbrev in-loop : At tie.After-start-within → At tie.In-loop
+in-loop c = c .before .before
 
 abbrev after-loop : At tie.After-new → At tie.After-loop
 after-loop c = c .before .before .before .before .before .before
@@ -37,8 +52,20 @@ loop-holds c = begin (c .before .before .args .out .now) (c .before .before .arg
 sub-loop : tie.Need-sub-loop Inv-loop μ-loop
 sub-loop c = omega arith
 
+sub-start-within : tie.Need-sub-start-within Inv-loop μ-loop
+sub-start-within c = omega arith
+
+part-start-within-start : tie.Need-part-start-within-start Inv-loop μ-loop
+part-start-within-start c = omega arith
+
+part-start-within-end : tie.Need-part-start-within-end Inv-loop μ-loop
+part-start-within-end c = omega arith
+
+start-within-requires : tie.Need-start-within-requires Inv-loop μ-loop
+start-within-requires c κs = longer (c .before .before .loop .inv) (c .before .loop-test .taken)
+
 add-next : tie.Need-add-next Inv-loop μ-loop
-add-next c = omega arith
+add-next c = omega (arith, within-line (in-loop c .before .loop .inv) (c .start-within .ensures))
 
 sub-lay-line : tie.Need-sub-lay-line Inv-loop μ-loop
 sub-lay-line c = omega arith
@@ -47,17 +74,23 @@ part-lay-line-start : tie.Need-part-lay-line-start Inv-loop μ-loop
 part-lay-line-start c = omega arith
 
 part-lay-line-end : tie.Need-part-lay-line-end Inv-loop μ-loop
-part-lay-line-end c = omega arith
+part-lay-line-end c = omega (arith, within-line (in-loop c .before .loop .inv) (c .start-within .ensures))
 
 lay-line-requires : tie.Need-lay-line-requires Inv-loop μ-loop
 lay-line-requires c κs = tt
 
 loop-less : tie.Need-loop-less Inv-loop μ-loop
-loop-less c = omega arith
+loop-less c =
+    let s = after-start c in
+    let t = in-loop s .loop-test .taken in
+    let i = in-loop s .before .loop .inv in
+    let e = s .start-within .ensures in
+    fewer _ _ _ _ t (within-line i e) (moves i e t)
 
 loop-again : tie.Need-loop-again Inv-loop μ-loop
 loop-again c =
-    turn (in-loop c .before .loop .inv) (in-loop c .loop-test .taken) (omega arith)
+    let s = after-start c in
+    turn (in-loop s .before .loop .inv) (s .start-within .ensures) (in-loop s .loop-test .taken) (omega arith)
     (c .before .before .lay-line .ensures)
 
 sub-lay : tie.Need-sub-lay Inv-loop μ-loop
@@ -98,6 +131,10 @@ fold-piece-spec =
     μ-loop
     loop-holds
     sub-loop
+    sub-start-within
+    part-start-within-start
+    part-start-within-end
+    start-within-requires
     add-next
     sub-lay-line
     part-lay-line-start

@@ -1,7 +1,7 @@
 -- `printing::count_mark`: the two pieces, and CRLF.
 use borrow.Author.Needs.{needs}
 use Prim.Native.Nat.{zero-le}
-use Rattle.printing.proofs.Pens.{then, closed-count}
+use Rattle.printing.proofs.Pens.{behind-mark, closed-count}
 use Rattle.printing.proofs.count_mark.Statement.{statement}
 use Rattle.printing.proofs.count_mark.Tie as tie
 
@@ -15,7 +15,9 @@ count-on-requires : tie.Need-count-on-requires
 count-on-requires c κs = search needs
 
 returns : tie.Need-returns
-returns c = closed-count (then (c .before .before .count-piece .ensures) (c .before .count-piece2 .ensures) zero-le) (c .count-on .ensures)
+returns c =
+    let m = c .before .before in
+    closed-count (behind-mark (m .count-piece .ensures) (c .before .count-piece2 .ensures) zero-le (m .before .before .before .pre)) (c .count-on .ensures)
 
 pub count-mark-spec : {M : Type 1} → statement M
 count-mark-spec =

@@ -1,7 +1,9 @@
 -- `printing::count_parameter`: the key, and the value where one is present.
+use Rattle.octets.specs.Bytes.{semicolon, equals}
+use mathlib.Core.Path.{refl}
 use borrow.Author.Needs.{needs}
 use Prim.Native.Nat.{zero-le}
-use Rattle.printing.proofs.Pens.{then, piece-as, key-alone, with-value}
+use Rattle.printing.proofs.Pens.{marks-front, behind-mark, before-mark, one-mark, piece-as, key-alone, with-value}
 use Rattle.printing.proofs.count_parameter.Statement.{statement}
 use Rattle.printing.proofs.count_parameter.Tie as tie
 
@@ -36,7 +38,7 @@ returns : tie.Need-returns
 returns c =
     let n = c .before .before in
     piece-as (key-alone (start-of n .args .text .now) (start-of n .args .row) (key-of n .view .ensures .0) (c .if1 .taken))
-    (then (n .before .count-piece .ensures) (n .count-piece2 .ensures) zero-le)
+    (behind-mark (n .before .count-piece .ensures) (n .count-piece2 .ensures) zero-le (one-mark semicolon refl))
 
 cast-view-3 : tie.Need-cast-view-3
 cast-view-3 c = search needs
@@ -55,7 +57,7 @@ returns-2 c =
     let n = value-test c .before .before in
     let a = start-of n .args in
     piece-as (with-value (a .text .now) (a .row) (key-of n .view .ensures .0) (c .before .view2 .ensures .0) (value-test c .if1 .left))
-    (then (then (n .before .count-piece .ensures) (n .count-piece2 .ensures) zero-le) (c .count-value .ensures) zero-le)
+    (before-mark (behind-mark (n .before .count-piece .ensures) (n .count-piece2 .ensures) zero-le (one-mark semicolon refl)) (c .count-value .ensures) zero-le (marks-front equals _ refl))
 
 pub count-parameter-spec : {M : Type 1} → statement M
 count-parameter-spec =

@@ -1,8 +1,11 @@
 -- `printing::count_property`: key, parameters and value in turn, and CRLF.
+use Rattle.tables.specs.Fronts.{ownParameters}
+use Rattle.octets.specs.Bytes.{colon}
+use mathlib.Core.Path.{refl}
 use borrow.Author.Needs.{needs}
 use Prim.Native.Nat.{zero-le}
 use Rattle.tables.specs.Lent.{parametersIn}
-use Rattle.printing.proofs.Pens.{then, piece-as, parts, closed-count}
+use Rattle.printing.proofs.Pens.{marks-front, behind-mark, before-mark, one-mark, marked, piece-as, parts, closed-count}
 use Rattle.printing.proofs.count_property.Statement.{statement}
 use Rattle.printing.proofs.count_property.Tie as tie
 
@@ -58,8 +61,9 @@ returns : tie.Need-returns
 returns c =
     let a = start-of c .args in
     let rows = listed c .count-parameters .ensures in
-    let value = then (c .before .before .count-piece2 .ensures) (c .before .count-piece3 .ensures) zero-le in
-    let line = then (then (listed c .before .count-piece .ensures) (rows .0) zero-le) value zero-le in
+    let value = behind-mark (c .before .before .count-piece2 .ensures) (c .before .count-piece3 .ensures) zero-le (one-mark colon refl) in
+    let own = ownParameters (a .text .now) (a .number) (a .first) (parametersIn (a .parameters .now)) in
+    let line = before-mark (before-mark (listed c .before .count-piece .ensures) (rows .0) zero-le (marked own)) value zero-le (marks-front colon _ refl) in
     let e = parts (a .text .now) (a .p) (a .number) (a .first) (parametersIn (a .parameters .now)) (key-of c .view .ensures .0) (value-of c .view2 .ensures .0) in
     (closed-count (piece-as e line) (c .count-on .ensures), rows .1)
 

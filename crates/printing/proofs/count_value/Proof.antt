@@ -1,12 +1,12 @@
 -- `printing::count_value`: the value as it is, or between quotes, behind `=`.
 use borrow.Author.Needs.{needs}
-use mathlib.Core.Path.{sym, ap, _∙_}
-use mathlib.Core.List.{List, _∷_}
+use mathlib.Core.Path.{sym, ap, _∙_, refl}
+use mathlib.Core.List.{List, _∷_, []}
 use Prim.Native.Nat.{ℕ, zero-le}
 use borrow.Author.Tests.{not-true, not-false}
-use Rattle.octets.specs.Bytes.{equals}
+use Rattle.octets.specs.Bytes.{equals, quote}
 use Rattle.quoting.proofs.Laws.{stays, in-quotes}
-use Rattle.printing.proofs.Pens.{then, piece-as}
+use Rattle.printing.proofs.Pens.{marks-front, behind-mark, before-mark, one-mark, two-marks, piece-as}
 use Rattle.printing.proofs.count_value.Statement.{statement}
 use Rattle.printing.proofs.count_value.Tie as tie
 
@@ -32,7 +32,7 @@ returns : tie.Need-returns
 returns c =
     let t = bare-test c in
     let e = stays (t .before .before .before .args .part .now) (sym (t .before .wraps .ensures) ∙ not-true _ (t .if1 .taken)) in
-    piece-as (ap (λ (k : List ℕ). equals ∷ k) e) (then (c .before .count-piece .ensures) (c .count-piece2 .ensures) zero-le)
+    piece-as (ap (λ (k : List ℕ). equals ∷ k) e) (behind-mark (c .before .count-piece .ensures) (c .count-piece2 .ensures) zero-le (one-mark equals refl))
 
 slice-aggregate-count-piece-2 : tie.Need-slice-aggregate-count-piece-2
 slice-aggregate-count-piece-2 c = search needs
@@ -53,8 +53,8 @@ returns-2 : tie.Need-returns-2
 returns-2 c =
     let t = quoted-test c in
     let e = in-quotes (t .before .before .before .args .part .now) (sym (t .before .wraps .ensures) ∙ not-false _ (t .if1 .left)) in
-    let front = then (c .before .before .before .count-piece3 .ensures) (c .before .before .count-piece4 .ensures) zero-le in
-    piece-as (ap (λ (k : List ℕ). equals ∷ k) (sym e)) (then front (c .count-piece5 .ensures) zero-le)
+    let front = behind-mark (c .before .before .before .count-piece3 .ensures) (c .before .before .count-piece4 .ensures) zero-le two-marks in
+    piece-as (ap (λ (k : List ℕ). equals ∷ k) (sym e)) (before-mark front (c .count-piece5 .ensures) zero-le (marks-front quote [] refl))
 
 pub count-value-spec : {M : Type 1} → statement M
 count-value-spec =

@@ -1,7 +1,9 @@
 -- `printing::lay_parameter`: the key, and the value where one is present.
+use Rattle.octets.specs.Bytes.{equals}
+use mathlib.Core.Path.{refl}
 use borrow.Author.Needs.{needs}
 use native.Mathlib.Omega.{arith}
-use Rattle.printing.proofs.Pens.{then, piece-as, key-alone, with-value}
+use Rattle.printing.proofs.Pens.{marks-front, before-mark, piece-as, key-alone, with-value}
 use Rattle.printing.proofs.lay_parameter.Statement.{statement}
 use Rattle.printing.proofs.lay_parameter.Tie as tie
 
@@ -57,7 +59,7 @@ returns-2 c =
     let n = named c in
     let s = start-of n in
     piece-as (with-value (s .args .text .now) (s .args .p) (key-of n .view .ensures .0) (c .before .before .before .before .view2 .ensures .0) (value-test c .if1 .left))
-    (then (n .lay-after .ensures) (c .before .before .lay-value .ensures) (omega arith))
+    (before-mark (n .lay-after .ensures) (c .before .before .lay-value .ensures) (omega arith) (marks-front equals _ refl))
 
 pub lay-parameter-spec : {M : Type 1} → statement M
 lay-parameter-spec =

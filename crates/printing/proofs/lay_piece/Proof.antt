@@ -6,7 +6,8 @@ use Prim.Native.Nat.{ℕ}
 use lib.ListN.{length}
 use Rattle.octets.specs.Laid.{laidFrom}
 use Rattle.octets.proofs.Writing.{lent-back, at-most}
-use Rattle.folding.specs.Strict.{units, foldedUnits}
+use Rattle.characters.specs.Units.{units}
+use Rattle.folding.specs.Strict.{foldedUnits}
 use Rattle.folding.specs.declared.Folded.{Folded}
 use Rattle.printing.proofs.Pens.{whole}
 use Rattle.printing.proofs.lay_piece.Statement.{statement}

@@ -1,13 +1,13 @@
 -- `printing::lay_value`: the value as it is, or between quotes, behind `=`.
 use borrow.Author.Needs.{needs}
 use native.Mathlib.Omega.{arith}
-use mathlib.Core.Path.{sym, ap, _∙_}
-use mathlib.Core.List.{List, _∷_}
+use mathlib.Core.Path.{sym, ap, _∙_, refl}
+use mathlib.Core.List.{List, _∷_, []}
 use Prim.Native.Nat.{ℕ}
 use borrow.Author.Tests.{not-true, not-false}
-use Rattle.octets.specs.Bytes.{equals}
+use Rattle.octets.specs.Bytes.{equals, quote}
 use Rattle.quoting.proofs.Laws.{stays, in-quotes}
-use Rattle.printing.proofs.Pens.{then, piece-as}
+use Rattle.printing.proofs.Pens.{marks-front, behind-mark, before-mark, two-marks, piece-as}
 use Rattle.printing.proofs.lay_value.Statement.{statement}
 use Rattle.printing.proofs.lay_value.Tie as tie
 
@@ -66,8 +66,8 @@ returns-2 : tie.Need-returns-2
 returns-2 c =
     let value = quoted-start c .args .value .now in
     let e = in-quotes value (sym (quoted-test c .before .wraps .ensures) ∙ not-false _ (quoted-test c .if1 .left)) in
-    let front = then (opened c .lay-piece .ensures) (inside c .lay-piece2 .ensures) (omega arith) in
-    piece-as (ap (λ (k : List ℕ). equals ∷ k) (sym e)) (then front (c .before .before .lay-piece3 .ensures) (omega arith))
+    let front = behind-mark (opened c .lay-piece .ensures) (inside c .lay-piece2 .ensures) (omega arith) two-marks in
+    piece-as (ap (λ (k : List ℕ). equals ∷ k) (sym e)) (before-mark front (c .before .before .lay-piece3 .ensures) (omega arith) (marks-front quote [] refl))
 
 pub lay-value-spec : {M : Type 1} → statement M
 lay-value-spec =

@@ -1,7 +1,7 @@
 -- `printing::print_mark`: the two pieces, and CRLF.
 use native.Mathlib.Omega.{arith}
 use borrow.Author.Needs.{needs}
-use Rattle.printing.proofs.Pens.{then, closed}
+use Rattle.printing.proofs.Pens.{behind-mark, closed}
 use Rattle.printing.proofs.print_mark.Statement.{statement}
 use Rattle.printing.proofs.print_mark.Tie as tie
 
@@ -10,6 +10,9 @@ named c = c .before .before .before .before .before .before
 
 abbrev marked : tie.After-slice-known4 → tie.After-lay-piece
 marked c = named c .before .before .before .before
+
+abbrev start-of : tie.After-slice-known4 → tie.Start
+start-of c = marked c .before .before .before .before .before
 
 lay-piece-requires : tie.Need-lay-piece-requires
 lay-piece-requires c κs = search needs
@@ -24,7 +27,9 @@ same-length : tie.Need-same-length
 same-length c = search needs
 
 returns : tie.Need-returns
-returns c = closed (then (marked c .lay-piece .ensures) (named c .lay-piece2 .ensures) (omega arith)) (c .before .before .lay-end .ensures) (omega arith)
+returns c =
+    closed (behind-mark (marked c .lay-piece .ensures) (named c .lay-piece2 .ensures) (omega arith) (start-of c .pre))
+    (c .before .before .lay-end .ensures) (omega arith)
 
 pub print-mark-spec : {M : Type 1} → statement M
 print-mark-spec =

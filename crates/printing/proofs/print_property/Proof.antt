@@ -1,7 +1,9 @@
 -- `printing::print_property`: the line as it stands in the text, or key, parameters and value in turn, and CRLF.
+use Rattle.tables.specs.Fronts.{ownParameters}
+use Rattle.octets.specs.Bytes.{colon}
 use native.Mathlib.Omega.{arith}
 use borrow.Author.Needs.{needs}
-use mathlib.Core.Path.{ap}
+use mathlib.Core.Path.{ap, refl}
 use Prim.Native.Nat.{_≤_}
 use lib.ListN.{length}
 use borrow.Author.Tests.{not-true}
@@ -10,7 +12,7 @@ use Rattle.octets.proofs.Bools.{both}
 use Rattle.octets.proofs.Writing.{from-as}
 use Rattle.tables.specs.Lent.{parametersIn}
 use Rattle.printing.specs.Lines.{closedLine}
-use Rattle.printing.proofs.Pens.{then, piece-as, closed, parts, bare}
+use Rattle.printing.proofs.Pens.{marks-front, before-mark, marked, piece-as, closed, parts, bare}
 use Rattle.printing.proofs.print_property.Statement.{statement}
 use Rattle.printing.proofs.print_property.Tie as tie
 
@@ -95,7 +97,8 @@ returns-2 c =
     let a = s .args in
     let h : length (a .out .now) ≤ most = omega arith in
     let listed = listed c .lay-parameters .ensures in
-    let line = then (then (named c .lay-piece .ensures) (listed .0) h) (ended c .lay-after .ensures) h in
+    let own = ownParameters (a .text .now) (a .number) (a .first) (parametersIn (a .parameters .now)) in
+    let line = before-mark (before-mark (named c .lay-piece .ensures) (listed .0) h (marked own)) (ended c .lay-after .ensures) h (marks-front colon _ refl) in
     let e = parts (a .text .now) (a .p) (a .number) (a .first) (parametersIn (a .parameters .now)) (key-of c .view .ensures .0) (value-of c .view2 .ensures .0) in
     (closed (piece-as e line) (c .before .before .lay-end .ensures) h, listed .1)
 

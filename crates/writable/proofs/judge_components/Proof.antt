@@ -7,7 +7,7 @@ use borrow.Author.Needs.{needs}
 use native.Mathlib.Nat.{zero-add}
 use Rattle.tables.specs.Rows.{componentSize, componentAt}
 use Rattle.writable.specs.WritingRule.{componentVerdict}
-use Rattle.writable.proofs.Laws.{Judging, Turn, begin, on, unwritable, off-ascii, end}
+use Rattle.writable.proofs.Laws.{Judging, Turn, begin, on, unwritable, off-utf8, end}
 use Rattle.writable.proofs.judge_components.Statement.{statement}
 use Rattle.writable.proofs.judge_components.Tie as tie
 
@@ -72,7 +72,7 @@ enum-told-3 : tie.Need-enum-told-3 Inv-loop μ-loop
 enum-told-3 c = search needs
 
 returns-2 : tie.Need-returns-2 Inv-loop μ-loop
-returns-2 c = rw zero-add at (off-ascii (turn (c .before .before)) (c .enum-told3 .given .1))
+returns-2 c = rw zero-add at (off-utf8 (turn (c .before .before)) (c .enum-told3 .given .1))
 
 returns-3 : tie.Need-returns-3 Inv-loop μ-loop
 returns-3 c =

@@ -6,10 +6,9 @@ use mathlib.Core.Bool.{true}
 use Prim.Native.Nat.{ℕ}
 use borrow.Author.Tests.{eq-eqb, ne-eqb}
 use Rattle.octets.specs.Views.{viewed}
-use Rattle.octets.specs.Runs.{only}
-use Rattle.folding.specs.Answers.{ascii}
+use Rattle.characters.specs.Utf8.{isUtf8}
 use Rattle.tables.specs.Trees.{Value, valueOf}
-use Rattle.writable.specs.WritingRule.{presentFits, valueFits, valueAscii}
+use Rattle.writable.specs.WritingRule.{presentFits, valueFits, valueUtf8}
 use Rattle.writable.proofs.Laws.{bad-key, good-key}
 use Rattle.writable.proofs.parameter_verdict.Statement.{statement}
 use Rattle.writable.proofs.parameter_verdict.Tie as tie
@@ -27,7 +26,7 @@ of-key-bytes-requires : tie.Need-of-key-bytes-requires
 of-key-bytes-requires c κs = search needs
 
 returns : tie.Need-returns
-returns c = let k = c .before in bad-key (k .of-key-bytes .ensures) (valueFits (written-of k)) (valueAscii (written-of k)) (c .if1 .taken)
+returns c = let k = c .before in bad-key (k .of-key-bytes .ensures) (valueFits (written-of k)) (valueUtf8 (written-of k)) (c .if1 .taken)
 
 returns-2 : tie.Need-returns-2
 returns-2 c =
@@ -43,7 +42,7 @@ returns-3 c =
     let i = c .before .before .before in
     let k = i .before in
     rw (ne-eqb (present-of k) 0 (c .before .if2 .left))
-    (c .present-verdict .ensures ∙ good-key (k .of-key-bytes .ensures) (presentFits (value-of k)) (only ascii (value-of k)) (i .if1 .left))
+    (c .present-verdict .ensures ∙ good-key (k .of-key-bytes .ensures) (presentFits (value-of k)) (isUtf8 (value-of k)) (i .if1 .left))
 
 pub parameter-verdict-spec : {M : Type 1} → statement M
 parameter-verdict-spec =

@@ -7,7 +7,7 @@ use Rattle.octets.specs.declared.Output.{Output}
 use Rattle.octets.proofs.Answers.{kept, told-no-done}
 use Rattle.tables.specs.Lent.{Lent, lent}
 use Rattle.writing.specs.Answers.{writtenIn}
-use Rattle.writing.proofs.Answers.{broken-row, unwritable-row, row-not-ascii, fitting}
+use Rattle.writing.proofs.Answers.{broken-row, unwritable-row, row-not-utf8, fitting}
 use Rattle.writing.proofs.write_components.Statement.{statement}
 use Rattle.writing.proofs.write_components.Tie as tie
 
@@ -76,7 +76,7 @@ returns-3 c =
     let j = c .before .before .before .before in
     let f = j .before .before .before in
     let s = start-at f in
-    kept (row-not-ascii (tables-of s) (length (s .args .out .now)) (sym (f .first-broken .ensures) ∙ j .before .enum-told .given .1)
+    kept (row-not-utf8 (tables-of s) (length (s .args .out .now)) (sym (f .first-broken .ensures) ∙ j .before .enum-told .given .1)
     (sym (j .judge .ensures) ∙ c .before .before .row2 .given .1) (c .refuse3 .ensures))
     (writtenIn (tables-of s)) (s .args .out .now) (told-no-done (c .refuse3 .ensures))
 

@@ -6,6 +6,7 @@ use mathlib.Core.List.{List}
 use Rattle.octets.proofs.Writing.{from-as}
 use Rattle.printing.specs.Lines.{closedLine, endLine}
 use Rattle.walking.proofs.Rows.{row-there, name-is}
+use Rattle.printing.proofs.Pens.{end-mark}
 use Rattle.writing.proofs.write_end.Statement.{statement}
 use Rattle.writing.proofs.write_end.Tie as tie
 
@@ -34,7 +35,7 @@ slice-aggregate-write-mark : tie.Need-slice-aggregate-write-mark
 slice-aggregate-write-mark c = search needs
 
 write-mark-requires : tie.Need-write-mark-requires
-write-mark-requires c κs = search needs
+write-mark-requires c κs = end-mark
 
 same-length : tie.Need-same-length
 same-length c = search needs

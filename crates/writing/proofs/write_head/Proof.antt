@@ -8,6 +8,7 @@ use Rattle.octets.proofs.Writing.{from-as, both}
 use Rattle.tables.specs.Lent.{componentsIn}
 use Rattle.printing.specs.Lines.{closedLine, beginLine}
 use Rattle.walking.proofs.Rows.{row-there, name-is}
+use Rattle.printing.proofs.Pens.{begin-mark}
 use Rattle.writing.proofs.write_head.Statement.{statement}
 use Rattle.writing.proofs.write_head.Tie as tie
 
@@ -48,7 +49,7 @@ slice-aggregate-write-mark : tie.Need-slice-aggregate-write-mark
 slice-aggregate-write-mark c = search needs
 
 write-mark-requires : tie.Need-write-mark-requires
-write-mark-requires c κs = search needs
+write-mark-requires c κs = begin-mark
 
 window-of-requires : tie.Need-window-of-requires
 window-of-requires c κs =

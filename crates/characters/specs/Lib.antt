@@ -1,0 +1,3 @@
+pub mod Units
+pub mod Utf8
+pub mod Grammar
