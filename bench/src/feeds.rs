@@ -15,44 +15,81 @@ impl Dice {
         words[self.below(words.len() as u64) as usize]
     }
 
-    fn sentence(&mut self, bytes: usize) -> String {
+    fn sentence(&mut self, words: &[&str], bytes: usize) -> String {
         let mut text = String::from("Please");
         while text.len() < bytes {
             text.push(' ');
-            text.push_str(self.pick(&WORDS));
+            text.push_str(self.pick(words));
         }
         text
     }
 }
 
-const WORDS: [&str; 16] = [
-    "bring",
-    "the",
-    "signed",
-    "form",
-    "to",
-    "room",
-    "before",
-    "noon;",
-    "agency",
-    "visit:",
-    "children,",
-    "and",
-    "parents",
-    "meet",
-    "us",
-    "there",
-];
-const NAMES: [&str; 6] = ["Berg, Ada", "Lind: Head", "Moss; Clerk", "Okoro, Ben", "Sato, Emi", "Diaz: Desk"];
+/// What the sentences and the names of a calendar are made of.
+struct Speech {
+    words: &'static [&'static str],
+    names: &'static [&'static str],
+}
+
+const PLAIN: Speech = Speech {
+    words: &[
+        "bring",
+        "the",
+        "signed",
+        "form",
+        "to",
+        "room",
+        "before",
+        "noon;",
+        "agency",
+        "visit:",
+        "children,",
+        "and",
+        "parents",
+        "meet",
+        "us",
+        "there",
+    ],
+    names: &["Berg, Ada", "Lind: Head", "Moss; Clerk", "Okoro, Ben", "Sato, Emi", "Diaz: Desk"],
+};
+
+/// As European languages have them: about one character in five is no ASCII.
+const ACCENTED: Speech = Speech {
+    words: &[
+        "São",
+        "João",
+        "Łódź;",
+        "für",
+        "Gespräch,",
+        "médecin",
+        "à",
+        "l’hôpital:",
+        "señor",
+        "Ağrı",
+        "Žižka",
+        "où",
+        "before",
+        "noon",
+        "and",
+        "there",
+    ],
+    names: &["Wiśniewski, Łukasz", "Müller: Büro", "Núñez; Año", "Conceição, Inês", "李, 小龙", "Çelik: Masa"],
+};
+
+/// Nearly all of their characters have two, three or four bytes.
+const WIDE: &[&str] = &["李小龙", "Здравствуйте", "नमस्ते", "안녕하세요", "สวัสดี", "😀👍", "Γειά", "مرحبا"];
 
 /// A feed of the kind, of as many bytes or a few less.
 pub fn feed(kind: &str, bytes: usize) -> String {
     match kind {
-        "calendar" => calendar("\r\n", bytes),
-        "lf-only" => calendar("\n", bytes),
+        "calendar" => calendar("\r\n", &PLAIN, bytes),
+        "lf-only" => calendar("\n", &PLAIN, bytes),
+        "accents" => calendar("\r\n", &ACCENTED, bytes),
         "lower" => lower(bytes),
         "nested" => nested(bytes),
-        "one-line" => one_line(bytes),
+        "one-line" => one_line("Please bring the signed form to the desk.", bytes),
+        "accented" => one_line(&ACCENTED.words.join(" "), bytes),
+        "wide" => one_line(&WIDE.join(" "), bytes),
         "hostile" => hostile(bytes),
         "doubled" => doubled(bytes),
         "copied" => copied(bytes),
@@ -65,9 +102,9 @@ pub fn feed(kind: &str, bytes: usize) -> String {
 const SEED: u64 = 0x9E37_79B9_7F4A_7C15;
 
 /// Events of ten properties, one of them quoted and one folded.
-fn calendar(end: &str, bytes: usize) -> String {
+fn calendar(end: &str, speech: &Speech, bytes: usize) -> String {
     let mut dice = Dice(SEED);
-    wrapped("VCALENDAR", bytes, end, |n| event(&mut dice, n, end, |note| format!("DESCRIPTION:{note}")))
+    wrapped("VCALENDAR", bytes, end, |n| event(&mut dice, n, end, speech, |note| format!("DESCRIPTION:{note}")))
 }
 
 /// The same, with the names of properties, BEGIN and END in lower case, as some relays send them.
@@ -76,7 +113,7 @@ fn lower(bytes: usize) -> String {
         let name = line.find([':', ';']).unwrap_or(0);
         line[..name].to_lowercase() + &line[name..]
     };
-    calendar("\r\n", bytes).split_inclusive("\r\n").map(small).collect()
+    calendar("\r\n", &PLAIN, bytes).split_inclusive("\r\n").map(small).collect()
 }
 
 /// A calendar with each event twice.
@@ -85,7 +122,7 @@ fn doubled(bytes: usize) -> String {
     let mut once = String::new();
     wrapped("VCALENDAR", bytes, "\r\n", |n| {
         if n % 2 == 0 {
-            once = event(&mut dice, n, "\r\n", |note| format!("DESCRIPTION:{note}"));
+            once = event(&mut dice, n, "\r\n", &PLAIN, |note| format!("DESCRIPTION:{note}"));
         }
         once.clone()
     })
@@ -96,7 +133,7 @@ fn copied(bytes: usize) -> String {
     let events = bytes / 2 / 400;
     let one = |note: fn(String) -> String| {
         let mut dice = Dice(SEED);
-        let all: String = (0..events).map(|n| event(&mut dice, n, "\r\n", note)).collect();
+        let all: String = (0..events).map(|n| event(&mut dice, n, "\r\n", &PLAIN, note)).collect();
         format!("BEGIN:VCALENDAR\r\n{all}END:VCALENDAR\r\n")
     };
     let plain = one(|note| format!("NOTE:{note}"));
@@ -105,7 +142,7 @@ fn copied(bytes: usize) -> String {
 }
 
 /// An event whose last line is made of a sentence.
-fn event(dice: &mut Dice, n: usize, end: &str, last: fn(String) -> String) -> String {
+fn event(dice: &mut Dice, n: usize, end: &str, speech: &Speech, last: fn(String) -> String) -> String {
     let (day, hour) = (10 + dice.below(20), 10 + dice.below(10));
     let lines = [
         "BEGIN:VEVENT".into(),
@@ -117,10 +154,10 @@ fn event(dice: &mut Dice, n: usize, end: &str, last: fn(String) -> String) -> St
         format!("LOCATION:Room {}", dice.below(90)),
         format!("CLASS:{}", dice.pick(&["PUBLIC", "PRIVATE"])),
         format!("SEQUENCE:{}", dice.below(7)),
-        format!("ORGANIZER;CN=\"{}\":mailto:desk{}@agency.example", dice.pick(&NAMES), dice.below(9)),
+        format!("ORGANIZER;CN=\"{}\":mailto:desk{}@agency.example", dice.pick(speech.names), dice.below(9)),
         last({
             let length = 64 + dice.below(48) as usize;
-            dice.sentence(length)
+            dice.sentence(speech.words, length)
         }),
         "END:VEVENT".into(),
     ];
@@ -140,10 +177,10 @@ fn hostile(bytes: usize) -> String {
     wrapped("VCALENDAR", bytes, "\r\n", |_| "BEGIN:A\r\nEND:A\r\nK:v\r\n".into())
 }
 
-/// One property whose line takes up all there is.
-fn one_line(bytes: usize) -> String {
-    let value = "Please bring the signed form to the desk. ".repeat(bytes / 42 + 1);
-    described(&value[..bytes - described("").len()])
+/// One property whose line takes up all there is, of these words over and over.
+fn one_line(words: &str, bytes: usize) -> String {
+    let value = format!("{words} ").repeat(bytes / words.len() + 1);
+    described(&value[..within(&value, bytes - described("").len())])
 }
 
 /// The same of commas alone, half as many: each is written as two bytes.
@@ -168,14 +205,20 @@ fn wrapped(name: &str, bytes: usize, end: &str, mut part: impl FnMut(usize) -> S
     feed + &last
 }
 
+/// The last place where a character starts, within so many bytes.
+fn within(text: &str, bytes: usize) -> usize {
+    (0..=bytes).rev().find(|&at| text.is_char_boundary(at)).unwrap_or(0)
+}
+
 /// The line with its break, folded as RFC 5545, section 3.1, asks.
 fn folded(line: &str, end: &str) -> String {
     let (mut rest, mut width, mut text) = (line, 75, String::new());
     while rest.len() > width {
-        text.push_str(&rest[..width]);
+        let (piece, behind) = rest.split_at(within(rest, width));
+        text.push_str(piece);
         text.push_str(end);
         text.push(' ');
-        (rest, width) = (&rest[width..], 74);
+        (rest, width) = (behind, 74);
     }
     text + rest + end
 }

@@ -16,6 +16,7 @@ unsafe extern "C" {
         numbers: *mut [usize; 6],
     );
     fn hawniretem_fold_line(line: *const u8, line_len: usize, out: *mut u8, out_len: usize, numbers: *mut [usize; 3]);
+    fn hawniretem_fold_strict(line: *const u8, line_len: usize, out: *mut u8, out_len: usize, numbers: *mut [usize; 3]);
     fn hawniretem_quote(value: *const u8, value_len: usize, out: *mut u8, out_len: usize, numbers: *mut [usize; 3]);
     fn hawniretem_read_text(
         mode: u32,
@@ -122,6 +123,12 @@ pub fn read(feed: &[u8], lent: &mut Lent) -> [usize; 6] {
 pub fn fold_line(line: &[u8], out: &mut [u8]) -> [usize; 3] {
     let mut numbers = [0; 3];
     unsafe { hawniretem_fold_line(line.as_ptr(), line.len(), out.as_mut_ptr(), out.len(), &mut numbers) }
+    numbers
+}
+
+pub fn fold_strict(line: &[u8], out: &mut [u8]) -> [usize; 3] {
+    let mut numbers = [0; 3];
+    unsafe { hawniretem_fold_strict(line.as_ptr(), line.len(), out.as_mut_ptr(), out.len(), &mut numbers) }
     numbers
 }
 

@@ -36,6 +36,7 @@ pub const ROWS: &[Row] = &[
     READ,
     READ_LOWER,
     FOLD,
+    STRICT,
     QUOTE,
     WRITE,
     TWINS,
@@ -102,6 +103,28 @@ const FOLD: Row = Row {
     same: |lines, lent| all_same(ours::fold_line, folded, lines, lent),
 };
 
+/// The strict fold, which takes accents, and the Rust's, which cuts elsewhere: what both unfold to is compared.
+const STRICT: Row = Row {
+    name: "strict",
+    feeds: &[
+        ("calendar", 1 << 20),
+        ("accents", 1 << 20),
+        ("one-line", 1 << 20),
+        ("accented", 1 << 20),
+        ("accented", 1 << 19),
+        ("wide", 1 << 20),
+    ],
+    ours: |lines, lent, clock| over_all(ours::fold_strict, lines, lent, clock),
+    same: |lines, lent| {
+        lines.iter().all(|line| {
+            let [answer, _, length] = ours::fold_strict(line.as_bytes(), &mut lent.out);
+            let strict = std::str::from_utf8(&lent.out[..length]).unwrap();
+            answer == 0 && strict.split("\r\n").all(|physical| physical.len() <= 75) && unfold(strict) == unfold(&folded(line))
+        })
+    },
+    ..FOLD
+};
+
 const QUOTE: Row = Row {
     name: "quote",
     feeds: FEEDS,
@@ -114,7 +137,14 @@ const QUOTE: Row = Row {
 /// The tables of a reading written, and the Rust's tree of the same feed; neither reading is timed.
 const WRITE: Row = Row {
     name: "write",
-    feeds: &[("calendar", 1 << 20), ("calendar", 1 << 19), ("nested", 1 << 20), ("hostile", 1 << 20), ("hostile", 1 << 19)],
+    feeds: &[
+        ("calendar", 1 << 20),
+        ("calendar", 1 << 19),
+        ("nested", 1 << 20),
+        ("hostile", 1 << 20),
+        ("hostile", 1 << 19),
+        ("accents", 1 << 20),
+    ],
     parts: |feed| vec![feed],
     ours: |parts, lent, clock| {
         let told = ours::read(parts[0].as_bytes(), lent);

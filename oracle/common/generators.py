@@ -19,6 +19,7 @@ def symbols(text):
 NASTY = symbols(';:=",A \t\r\n\\.')
 ASCII = [bytes([c]) for c in range(128)]
 UTF8 = symbols("é☃\u0085\u00a0\u2028\ufeff²😀")
+WIDE = symbols("éŁ☃李😀\U00010000\ufeff")     # of two, three and four bytes, none of them white space
 KEY_BYTES = (string.ascii_letters + string.digits + ".,/_-").encode()
 WORDS = [b"BEGIN", b"END", b"begin", b"eNd", b"BEGI", b"N", b":", b";", b"=", b" ", b"\n", b"\r",
          b"A", b".", b",", b"/", b"_", b"-", b"9", b"\x7f", b"@", b"[", b"`", b"{"]
@@ -140,6 +141,49 @@ def fold_random(rng):
     while True:
         yield word(rng, symbols("Abcd\x00\x7f") + BLANKS, 0, 400)
         yield damaged(rng, word(rng, symbols("abcdef  "), 70, 320), [b for b in ASCII if b != b"\n"])
+
+
+# ---------------------------------------------------------------- the strict fold: UTF-8 without white space
+
+def rests(line):
+    """How many bytes are left behind each cut, where a cut goes before a character."""
+    width = 75
+    while len(line) > width:
+        cut = max(at for at in range(width + 1) if line[at] & 0xC0 != 0x80)
+        line, width = line[cut:], 74
+        yield len(line)
+
+
+def in_foldstrict_domain(line):
+    """The Rust looks for white space by characters; and a rest of 75 bytes is one line to it, of 76 octets."""
+    return not re.search(r"\s", line.decode()) and 75 not in rests(line)
+
+
+def foldstrict_lines():
+    for n in range(400):
+        for c in [b"A", *WIDE]:
+            yield c * n
+    for first in (75, 149, 223):                    # each character at each place around a cut
+        for at in range(first - 6, first + 4):
+            for c in WIDE:
+                for tail in (0, 1, 2, 3, 70, 71, 72, 73, 74, 75, 76, 77, 150):
+                    yield b"A" * at + c + b"B" * tail
+                    yield b"A" * at + c * 3 + b"B" * tail
+    yield from exhaustive([b"A", *WIDE[:1], *WIDE[3:5]], 5, b"A" * 71, b"B" * 76)
+    for n in (4096, LIMIT - 4, LIMIT):
+        for c in (b"A", "aé".encode(), "李".encode(), "é李😀".encode()):
+            yield c * (n // len(c))
+
+
+def foldstrict_fixed():
+    return filter(in_foldstrict_domain, foldstrict_lines())
+
+
+def foldstrict_random(rng):
+    while True:
+        some = [word(rng, symbols("Abcd\x00\x7f") + WIDE * rng.choice((1, 3)), 0, 400),
+                damaged(rng, word(rng, symbols("abcdef") + WIDE[:4], 70, 200), WIDE)]
+        yield from filter(in_foldstrict_domain, some)
 
 
 # ---------------------------------------------------------------- quoting: valid UTF-8
@@ -465,13 +509,18 @@ class Layout:
         return struct.pack(f"<{len(words)}I", *words) + bytes(self.text)
 
 
-def plain(v):
-    return bytes(c for c in v if c < 128 and c not in b"\r\n")
+def unbroken(v):
+    return re.sub(rb"[\r\n]", b"", v)
+
+
+def cut_to(v, n):
+    """At most n bytes of valid UTF-8, no character cut."""
+    return v[:n].decode(errors="ignore").encode()
 
 
 def plain_value(rng):
     """A parameter value that needs no quotes."""
-    return re.sub(rb'[:;,"]', b"", plain(any_text(rng, LOOSE)))[:20] or b"b"
+    return cut_to(re.sub(rb'[:;,"]', b"", unbroken(any_text(rng, LOOSE))), 20) or b"b"
 
 
 def write_param(rng):
@@ -484,10 +533,10 @@ def write_param(rng):
 
 def write_prop(rng):
     while True:
-        p = any_key(rng), [write_param(rng) for _ in range(rng.choice((0, 0, 1, 2)))], plain(any_text(rng, LOOSE))
+        p = any_key(rng), [write_param(rng) for _ in range(rng.choice((0, 0, 1, 2)))], unbroken(any_text(rng, LOOSE))
         room = 75 - len(content(*p[:2], b""))
         if room >= 0:
-            return p[0], p[1], p[2][:room]
+            return p[0], p[1], cut_to(p[2], room)
 
 
 def write_name(rng):
@@ -504,6 +553,10 @@ def write_fixed():
     for v in exhaustive(symbols("=A \t\\.'"), 4):
         if v:
             yield one(b"K", [(b"P", v, b"")], b"v")
+    for v in exhaustive([b"A", b" ", *WIDE], 3):
+        yield one(b"K", [(b"P", v + b"q", b"")], v)
+    for c in WIDE:                         # lines of 75 bytes that end with a character
+        yield one(b"K", [], b"v" * (73 - len(c)) + c)
     for n in range(60, 74):                # lines of 62 to 75 bytes
         for c in symbols("v :\t"):
             yield one(b"K", [], c * n)
@@ -576,7 +629,7 @@ def readwrite_prop(rng):
         k, params = any_key(rng), [readwrite_param(rng) for _ in range(rng.choice((0, 0, 1, 2)))]
         room = 75 - len(written_line(k, params, b""))
         if room > 0:
-            return k, params, fit_value(plain(any_text(rng, LOOSE)))[:room]
+            return k, params, cut_to(fit_value(unbroken(any_text(rng, LOOSE))), room) or b"v"
 
 
 def readwrite_fixed():
@@ -684,7 +737,8 @@ PARTS = {"unfold": (unfold_fixed, unfold_random), "key": (key_fixed, key_random)
          "param": (param_fixed, param_random), "params": (param_fixed, param_random), "fold": (fold_fixed, fold_random),
          "quote": (quote_fixed, quote_random), "read": (read_fixed, read_random), "write": (write_fixed, write_random),
          "readwrite": (readwrite_fixed, readwrite_random),
-         "escape": (escape_fixed, escape_random), "unescape": (unescape_fixed, unescape_random), "strict": (strict_fixed, strict_random)}
+         "escape": (escape_fixed, escape_random), "unescape": (unescape_fixed, unescape_random), "strict": (strict_fixed, strict_random),
+         "foldstrict": (foldstrict_fixed, foldstrict_random)}
 
 
 def fixed(part):

@@ -14,7 +14,7 @@ TARGET = ROOT / "target" / "oracle"
 # The first byte of a frame of `replay`.
 LETTERS = {"unfold": b"u", "key": b"k", "keyseq": b"s", "param": b"p", "params": b"P",
            "fold": b"f", "quote": b"q", "read": b"r", "write": b"w", "readwrite": b"W",
-           "escape": b"e", "unescape": b"t", "strict": b"T"}
+           "escape": b"e", "unescape": b"t", "strict": b"T", "foldstrict": b"F"}
 
 
 class Failed(Exception):

@@ -97,6 +97,11 @@ fn lay_folded(case: &[u8], text: &mut [u8], out: &mut [u8]) -> usize {
     lay_output(answered, text, out)
 }
 
+fn lay_folded_strictly(case: &[u8], text: &mut [u8], out: &mut [u8]) -> usize {
+    let answered = folding::fold_strict(case, text);
+    lay_output(answered, text, out)
+}
+
 fn lay_quoted(case: &[u8], text: &mut [u8], out: &mut [u8]) -> usize {
     let answered = quoting::quote_special_chars(case, text);
     lay_output(answered, text, out)
@@ -375,6 +380,7 @@ fn lay_small(part: u8, case: &[u8], text: &mut [u8], out: &mut [u8]) -> usize {
         b'p' => lay_front(case, out),
         b'P' => lay_passed(case, out),
         b'f' => lay_folded(case, text, out),
+        b'F' => lay_folded_strictly(case, text, out),
         b'q' => lay_quoted(case, text, out),
         _ => lay_refusal(out),
     }

@@ -1,11 +1,13 @@
 -- Characters by example: every range of the grammar (RFC 3629, section 4) by its ends and the bytes beside them, and cuts at every place. Assumes nothing.
 use Prim.Native.Nat.{ℕ}
 use mathlib.Core.Path.{_≡_, refl}
+use mathlib.Core.Bool.{Bool, true, false}
 use mathlib.Core.List.{List, [], _∷_, _++_, map}
 use lib.ListN.{length}
 use Rattle.octets.specs.Runs.{run}
 use Rattle.characters.specs.Units.{unitsFrom, fitting, lastStart}
 use Rattle.characters.specs.Utf8.{soundLen, utf8Run}
+use Rattle.characters.specs.Quick.{looked, commonText}
 
 -- ---- where the first ill-formed character begins, or the end
 
@@ -40,9 +42,13 @@ names =
     ∷ row (240 ∷ 159 ∷ 152 ∷ 128 ∷ []) 4
     ∷ []
 
--- the ends of each range: 00 and 7F; C2 80 and DF BF
-abbrev short : List Case
-short = fine (0 ∷ []) ∷ fine (127 ∷ []) ∷ fine (194 ∷ 128 ∷ []) ∷ fine (223 ∷ 191 ∷ []) ∷ []
+-- the ends of each range: 00 and 7F
+abbrev of-one : List Case
+of-one = fine (0 ∷ []) ∷ fine (127 ∷ []) ∷ []
+
+-- C2 80 and DF BF
+abbrev of-two : List Case
+of-two = fine (194 ∷ 128 ∷ []) ∷ fine (223 ∷ 191 ∷ []) ∷ []
 
 -- E0 A0 80 and E0 BF BF; E1 80 80 and EC BF BF; ED 80 80 and ED 9F BF, before the surrogates; EE 80 80 and EF BF BF
 abbrev of-three : List Case
@@ -112,7 +118,7 @@ cut-off =
     ∷ []
 
 abbrev cases : List Case
-cases = names ++ (short ++ (of-three ++ (of-four ++ (no-first ++ (no-second ++ (lone ++ cut-off))))))
+cases = names ++ (of-one ++ (of-two ++ (of-three ++ (of-four ++ (no-first ++ (no-second ++ (lone ++ cut-off)))))))
 
 places : map found cases ≡ map told cases
 unfolding run unitsFrom soundLen
@@ -138,3 +144,32 @@ before-three = refl
 before-four : starts (letters ++ 240 ∷ 159 ∷ 152 ∷ 128 ∷ []) (0 ∷ 1 ∷ 2 ∷ 3 ∷ 4 ∷ 5 ∷ 6 ∷ 7 ∷ []) ≡ 0 ∷ 1 ∷ 2 ∷ 3 ∷ 3 ∷ 3 ∷ 3 ∷ 7 ∷ []
 unfolding run unitsFrom fitting
 before-four = refl
+
+-- ---- what is seen at a look
+
+abbrev seen : List Case → List Bool
+seen cases = map (λ (c : Case). commonText (c .text)) cases
+
+abbrev each : Bool → List Case → List Bool
+each so cases = map (λ (c : Case). so) cases
+
+-- the ends of each range of two and of three bytes pass; nothing ill-formed does
+pass : seen (of-two ++ of-three) ≡ each true (of-two ++ of-three)
+unfolding looked
+pass = refl
+
+abbrev ill-formed : List Case
+ill-formed = no-first ++ (no-second ++ (lone ++ cut-off))
+
+none-pass : seen ill-formed ≡ each false ill-formed
+unfolding looked
+none-pass = refl
+
+-- no text, U+1F600, a letter alone and one with an LF behind it are fine, and want the longer look
+names-pass : seen names ≡ false ∷ true ∷ true ∷ true ∷ false ∷ []
+unfolding looked
+names-pass = refl
+
+want-more : seen (fine (65 ∷ []) ∷ fine (65 ∷ 10 ∷ []) ∷ []) ≡ false ∷ false ∷ []
+unfolding looked
+want-more = refl

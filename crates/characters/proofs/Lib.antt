@@ -2,4 +2,5 @@ pub mod Units
 pub mod Leading
 pub mod Cuts
 pub mod Utf8
+pub mod Quick
 mod Examples

@@ -1,6 +1,6 @@
 -- Laws of UTF-8: the shape of a character, the code's test at the front, the grammar, and where the first ill-formed character begins. Assumes nothing.
 use mathlib.Core.Path.{_≡_, refl, sym, ap, subst, _∙_}
-use mathlib.Core.Bool.{Bool, true, false, _&&_, _||_, and-assoc}
+use mathlib.Core.Bool.{Bool, true, false, _&&_, and-assoc}
 use mathlib.Core.Logic.{_↔_}
 use mathlib.Core.List.{List, [], _∷_, _++_, map, append-assoc}
 use Prim.Native.Nat.{ℕ, suc, _+_, _≤_, _<_}
@@ -14,7 +14,7 @@ use Rattle.octets.specs.Choice.{pick}
 use Rattle.octets.specs.Bytes.{between, ascii}
 use Rattle.octets.specs.Runs.{run, only}
 use Rattle.octets.specs.All.{All}
-use Rattle.octets.proofs.Bools.{both}
+use Rattle.octets.proofs.Bools.{both, either}
 use Rattle.octets.proofs.Runs.{within, through, whole-head, whole-tail, all-of}
 use Rattle.characters.specs.Units.{tail, wanted, tails, units}
 use Rattle.characters.specs.Utf8.{utf8Two, utf8Three, utf8Four, utf8Char, soundLen, utf8Run, isUtf8, charFront, charLen}
@@ -22,10 +22,6 @@ use Rattle.characters.specs.Grammar.{Utf8, no-octet, a-char, IllFormedAt
 use Rattle.characters.proofs.Units.{units-none, units-front, by-units, unit-length, ascii-alone}
 
 -- ---- the shape of a character
-
-either : {so : Type 0} (s t : Bool) → (s ≡ true → so) → (t ≡ true → so) → s || t ≡ true → so
-either true t one other e = one refl
-either false t one other e = other e
 
 -- a byte of a range is one of a wider range
 wider : (lo hi low high x : ℕ) → leb low lo && leb hi high ≡ true → between lo hi x ≡ true → between low high x ≡ true

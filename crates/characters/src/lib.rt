@@ -1,9 +1,11 @@
 // Characters of UTF-8 (RFC 3629): how long one is by its first byte, which are well formed, and where a text may be cut.
 ghost use mathlib.Core.Path.{_≡_};
-ghost use Prim.Native.Nat.{_<_};
-ghost use lib.ListN.{length};
+ghost use mathlib.Core.Bool.{_&&_};
+ghost use Prim.Native.Nat.{_+_, _<_, _≤_};
+ghost use lib.ListN.{length, getD};
 ghost use Rattle.characters.specs.Units.{tail, wanted, lastStart};
 ghost use Rattle.characters.specs.Utf8.{utf8Two, utf8Three, utf8Four, utf8Run, charLen};
+ghost use Rattle.characters.specs.Quick.{asked, barred, beside, commonText};
 
 // Whether a byte is one of those behind the first of a character.
 fn is_tail(b: u8) -> bool
@@ -115,4 +117,61 @@ pub fn utf8_run(line: &[u8]) -> usize
         i += n;
     }
     i
+}
+
+// Whether a byte has to be a tail, behind c and before that b.
+fn is_asked(b: u8, c: u8) -> bool
+    ensures { λ r. ⌜ r ≡ asked b c ⌝ }
+{
+    (194 <= c) | (224 <= b)
+}
+
+// The byte that does not take x as its tail: E0 or ED.
+fn barred_before(x: u8) -> u8
+    ensures { λ r. ⌜ r ≡ barred x ⌝ }
+{
+    if x < 160 { 224 } else { 237 }
+}
+
+// Whether a byte may stand behind c and before that b, in a text of characters of three bytes at most and without control bytes.
+fn is_beside(b: u8, c: u8, x: u8) -> bool
+    ensures { λ r. ⌜ r ≡ beside b c x ⌝ }
+{
+    let asked = is_asked(b, c);
+    let begins = ((32 <= x) & (x <= 127)) | ((194 <= x) & (x <= 239));
+    ((asked & is_tail(x)) | (!asked & begins)) & !(c == barred_before(x))
+}
+
+// Whether the first two bytes may begin such a text.
+fn front_fits(line: &[u8]) -> bool
+    requires { ⌜ 2 ≤ length (now line) ⌝ }
+    ensures { λ r. ⌜ r ≡ beside 0 0 (getD (now (line .entry)) 0 0) && beside 0 (getD (now (line .entry)) 0 0) (getD (now (line .entry)) 1 0) ⌝ }
+{
+    let first = line[0];
+    is_beside(0, 0, first) & is_beside(0, first, line[1])
+}
+
+// Whether the third byte from `at` on may stand behind the two before it.
+fn third_fits(line: &[u8], at: usize) -> bool
+    requires { ⌜ at + 2 < length (now line) ⌝ }
+    ensures { λ r. ⌜ r ≡ beside (getD (now (line .entry)) at 0) (getD (now (line .entry)) (at + 1) 0) (getD (now (line .entry)) (at + 2) 0) ⌝ }
+{
+    is_beside(line[at], line[at + 1], line[at + 2])
+}
+
+// Whether a text is seen at a look to be UTF-8 without control bytes, as most are. The loop has no branch, so that it becomes vector code.
+pub fn is_common_text(line: &[u8]) -> bool
+    ensures { λ r. ⌜ r ≡ commonText (now (line .entry)) ⌝ }
+{
+    if line.len() < 2 {
+        return false;
+    }
+    let last = line.len() - 2;
+    let mut fine = front_fits(line);
+    let mut i: usize = 0;
+    while i < last {
+        fine = fine & third_fits(line, i);
+        i += 1;
+    }
+    fine & !is_asked(line[i], line[i + 1])
 }

@@ -18,7 +18,7 @@ use Rattle.octets.specs.Views.{part, viewed}
 use Rattle.octets.specs.declared.Key.the-variants.{Run}
 use Rattle.octets.proofs.Runs.{no-run, through}
 use Rattle.octets.proofs.Keys.{taken, refused}
-use Rattle.octets.proofs.Bools.{both}
+use Rattle.octets.proofs.Bools.{both, neither}
 use Rattle.parameters.specs.Values.{span}
 use Rattle.parameters.specs.Parameter.{frontOf}
 use Rattle.parameters.specs.Parameters.{paramsAfter, paramsOf, paramsUsed, passed, passedOf}
@@ -37,7 +37,7 @@ use Rattle.tables.specs.declared.PropertyRow.{PropertyRow}
 use Rattle.tables.specs.declared.ParameterRow.{ParameterRow}
 use Rattle.nesting.specs.Rows.{propertyRow, parameterRow, parameterRows}
 use Rattle.demands.specs.LineGrammar.{Every, Some, begin, end, AnyCase, as-capital, as-small, Marked, marked, Opens, Closes, Parameters, Tail, at-once, valued, PropertyLine, property-line}
-use Rattle.demands.proofs.Scanning.{neither, reserved-in, no-mark}
+use Rattle.demands.proofs.Scanning.{reserved-in, no-mark}
 use Rattle.demands.proofs.SaidWords.{every-run, run-every, split, word-found, word-starts, word-length, colon-found, lowered-capital, lowered-small, word-alone, alone-word}
 use Rattle.demands.proofs.SaidParameters.{found-all, ends-off, ends-behind, read-all}
 

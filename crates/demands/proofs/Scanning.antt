@@ -18,7 +18,7 @@ use Rattle.octets.specs.Views.{part, viewed}
 use Rattle.octets.specs.All.{All}
 use Rattle.octets.specs.declared.Key.the-variants.{Run}
 use Rattle.octets.specs.declared.Span.{Span}
-use Rattle.octets.proofs.Bools.{both}
+use Rattle.octets.proofs.Bools.{both, neither}
 use Rattle.octets.proofs.Runs.{no-run, through, whole-head, whole-tail, whole-wider, all-of}
 use Rattle.octets.proofs.Keys.{taken}
 use Rattle.parameters.specs.Values.{span, ValueWithin}
@@ -45,10 +45,6 @@ use Rattle.demands.specs.Returning.{linesOf, Plain, fitParameter, FitPro
 use Rattle.demands.proofs.Quotes.{quoted-back}
 
 -- ---- what fits
-
-pub neither : (a : Bool) {b : Bool} → a || b ≡ false → (a ≡ false) × (b ≡ false)
-neither true e = absurd (false≢true (sym e))
-neither false e = (refl, e)
 
 -- one key byte or more, and no other byte
 record Keyed (name : List ℕ) : Type 0 where

@@ -4,17 +4,19 @@ use mathlib.Core.Bool.{Bool, true, false}
 use mathlib.Core.List.{List, [], _∷_, _++_, append-assoc, flatten}
 use Prim.Native.Nat.{ℕ, _+_, _-_, _*_, _≤_, _<_, zero-le}
 use native.Mathlib.Omega.{arith}
-use lib.ListN.{length, take, drop, length-append, length-drop, take-append-drop}
+use lib.ListN.{length, take, drop, length-append, length-take, length-drop, take-append-drop}
 use lib.Seq.{drop-drop, take-all, take-append-add, drop-append-add}
 use lib.Dec.{leb}
-use borrow.Author.Tests.{le-leb, leb-true}
+use borrow.Author.Tests.{le-leb, leb-true, leb-false}
 use Rattle.octets.specs.Choice.{pick}
 use Rattle.octets.specs.All.{All}
-use Rattle.octets.specs.Laid.{most, Lays}
-use Rattle.octets.proofs.Writing.{Writing, start, more, end, from-as}
+use Rattle.octets.specs.Laid.{most, counted, Lays}
+use Rattle.octets.proofs.Writing.{Writing, start, more, end, from-as, from-front, counts}
 use Rattle.characters.specs.Units.{tails, units, fitting, lastStart}
 use Rattle.characters.proofs.Units.{Small, units-front, units-small, units-flatten, by-units, unit-length, unit-small, fitting-most}
 use Rattle.folding.specs.Pieces.{brk, physical}
+use Rattle.folding.specs.declared.Column.{Column}
+use Rattle.folding.specs.declared.Folded.{Folded}
 use Rattle.folding.specs.Strict.{first, later, breakFor, leftFor, foldedUnits, leftAfter, strict}
 
 -- ---- two parts in turn
@@ -135,6 +137,22 @@ unfolding fitting
 starts-some [] left h room = absurd (omega arith)
 starts-some (x ∷ xs) left h room = rw (units-front x xs, le-leb (length (x ∷ take (tails x xs) xs)) left (omega (arith, unit-length x xs, unit-small x xs))) (omega arith)
 
+-- ---- the loops end: each turn takes a character, or is followed by one that does, since no character has more than four octets
+
+abbrev pub ahead : ℕ → ℕ → ℕ → ℕ
+ahead size at left = size - at + (4 - left)
+
+pub fewer : (size at left k : ℕ) → left < size - at → k ≤ left → (4 ≤ left → 0 < k) → ahead size (at + k) later < ahead size at left
+fewer size at left k h w m = go (leb 4 left) refl
+  where
+    go : (t : Bool) → leb 4 left ≡ t → ahead size (at + k) later < ahead size at left
+    go true t = omega (arith, m (leb-true 4 left t))
+    go false t = omega (arith, leb-false 4 left t)
+
+pub same : {c : Column} {n left m : ℕ} → c .left ≡ left → n ≡ m
+    → _≡_ {A = Folded} (record { column = c; length = n }) (record { column = record { left = left }; length = m })
+same {c} {n} {left} {m} p q = rw (← p, q)
+
 -- ---- at work on a piece: what is laid, and what is to come from `at` on, with so many octets left
 
 pub record Folding (old out piece : List ℕ) (left₀ left at n : ℕ) : Type 0 where
@@ -186,3 +204,22 @@ module _ {old out piece : List ℕ} {left₀ left at n : ℕ} (f : Folding old o
         sym (left-fits left (drop at piece) (omega arith) ∙ rw l) ∙ f .column,
         end (f .writing) (from-as (all-left ∙ sym (fold-fits left (drop at piece) (omega arith))) p),
       )
+
+-- ---- the same without a buffer, where a count goes on by as much
+
+module _ {piece : List ℕ} {left₀ left at n : ℕ} (f : Folding [] [] piece left₀ left at n) where
+  pub count-turn : {k : ℕ} → k ≡ lastStart left (take (length piece - at) (drop at piece)) → left < length piece - at
+      → {c m : ℕ} → c ≡ counted (n + k) → m ≡ counted (c + 3) → Folding [] [] piece left₀ later (at + k) m
+  count-turn {k} e h {c} {m} p q =
+      let front = take (at + k - at) (drop at piece) in
+      let l : length (front ++ brk) ≡ k + 3 = omega (arith, length-append front brk, length-take (at + k - at) (drop at piece), length-drop at piece, within-line f e) in
+      turn f e h zero-le (counts n (front ++ brk) (rw l (omega (arith, p, q))))
+
+  pub count-finish : length piece - at ≤ left → {m : ℕ} → m ≡ counted (n + (length piece - at))
+      → (left - (length piece - at) ≡ leftAfter left₀ (units piece)) × (m ≡ counted (length (foldedUnits left₀ (units piece))))
+  count-finish h {m} p =
+      let rest = take (length piece - at) (drop at piece) in
+      let l : length rest ≡ length piece - at = omega (arith, length-take (length piece - at) (drop at piece), length-drop at piece) in
+      let q : m ≡ counted (n + length rest) = rw l p in
+      let e = finish f h (counts n rest q) in
+      (e .0, from-front (e .1))

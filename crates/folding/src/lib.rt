@@ -1,10 +1,10 @@
 // The two folds of a line: the strict one of RFC 5545, section 3.1, which takes UTF-8 and which the writer uses, and the repository's.
 // Here document 01 departs from the RFC: docs/DIFFERENCES.md, R-20, R-21.
 ghost use mathlib.Core.Path.{_≡_};
-ghost use Prim.Native.Nat.{_+_, _<_};
+ghost use Prim.Native.Nat.{_+_, _<_, _≤_};
 ghost use lib.ListN.{length};
 ghost use mathlib.Core.List.{_++_};
-ghost use Rattle.octets.specs.Laid.{laid, Lays};
+ghost use Rattle.octets.specs.Laid.{laid, counted, Lays};
 ghost use Rattle.octets.specs.Answers.{output};
 ghost use Rattle.octets.specs.Runs.{run, only};
 ghost use Rattle.octets.specs.Bytes.{ascii};
@@ -40,12 +40,24 @@ pub struct Folded {
     pub length: usize,
 }
 
+// The octets between two physical lines.
+const BREAK: usize = 3;
+
+// Lays them: CRLF and a space.
+fn lay_break(out: &mut [u8], at: usize) -> usize
+    ensures { λ r. ⌜ Lays at brk (now (out .entry)) (now (out .exit)) r ⌝ }
+{
+    let cr = octets::lay_byte(b'\r', out, at);
+    let lf = octets::lay_byte(b'\n', out, cr);
+    octets::lay_byte(b' ', out, lf)
+}
+
 // Lays a piece and the break behind it.
 fn lay_line(piece: &[u8], out: &mut [u8], at: usize) -> usize
     ensures { λ r. ⌜ Lays at (now (piece .entry) ++ brk) (now (out .entry)) (now (out .exit)) r ⌝ }
 {
     let end = octets::lay(piece, out, at);
-    octets::lay(b"\r\n ", out, end)
+    lay_break(out, end)
 }
 
 // Folds a piece of a line strictly, from the column on, over the front of the buffer.
@@ -66,6 +78,25 @@ pub fn fold_piece(column: Column, piece: &[u8], out: &mut [u8]) -> Folded
     Folded {
         column: Column::new(left - (piece.len() - at)),
         length,
+    }
+}
+
+// Counts a piece as `fold_piece` lays it, without a buffer.
+pub fn count_piece(column: Column, piece: &[u8]) -> Folded
+    ensures { λ r. ⌜ r ≡ foldedPiece (column .left) (now (piece .entry)) ⌝ }
+{
+    let mut left = column.left;
+    let mut at: usize = 0;
+    let mut length: usize = 0;
+    while left < piece.len() - at {
+        let taken = characters::start_within(&piece[at..], left);
+        length = octets::count_on(octets::count_on(length, taken), BREAK);
+        at += taken;
+        left = Column::LATER;
+    }
+    Folded {
+        column: Column::new(left - (piece.len() - at)),
+        length: octets::count_on(length, piece.len() - at),
     }
 }
 
@@ -111,6 +142,24 @@ fn all_foldable(line: &[u8]) -> bool
         i += 1;
     }
     fine
+}
+
+// How many bytes are looked at together before it is told whether to go on.
+const BLOCK: usize = 65_536;
+
+// How many bytes at the front are seen to be foldable, block by block: all of them, or fewer than there are.
+fn foldable_front(line: &[u8]) -> usize
+    ensures { λ r. ⌜ r ≤ run foldable (now (line .entry)) ⌝ }
+{
+    let mut i: usize = 0;
+    while i < line.len() {
+        let next = i + octets::least(line.len() - i, BLOCK);
+        if !all_foldable(&line[i..next]) {
+            return i;
+        }
+        i = next;
+    }
+    i
 }
 
 // How many bytes stand before the first of 128 or more.
@@ -159,7 +208,11 @@ fn check_strict(line: &[u8]) -> Output
     if line.len() > octets::LONGEST {
         return refuse(octets::TOO_LONG, 0);
     }
-    if all_foldable(line) {
+    let front = foldable_front(line);
+    if line.len() <= front {
+        return refuse(octets::DONE, 0);
+    }
+    if characters::is_common_text(&line[front..]) {
         return refuse(octets::DONE, 0);
     }
     check_bytes(line, octets::NOT_UTF8, characters::utf8_run(line))
@@ -188,9 +241,7 @@ pub fn fold_strict(line: &[u8], out: &mut [u8]) -> Output
         return checked;
     }
     let first = Column::new(Column::FIRST);
-    let mut none = [0u8; 0];
-    let needed = fold_piece(first, line, &mut none).length;
-    let answer = octets::room_for(needed, out.len());
+    let answer = octets::room_for(count_piece(first, line).length, out.len());
     if answer.answer != octets::DONE {
         return answer;
     }

@@ -6,7 +6,7 @@ use Prim.Native.Nat.{ℕ, zero, suc, _+_, _≤_, _<_, zero-le, suc-le-suc}
 use native.Mathlib.Nat.{zero-add, not-suc-le-zero, le-of-suc-le-suc}
 use native.Mathlib.Numerals.{add-one}
 use native.Mathlib.Omega.{arith}
-use lib.ListN.{length, getD, take, drop, drop-of-length-le}
+use lib.ListN.{length, getD, take, drop, length-take, length-drop, take-append-drop, drop-of-length-le}
 use lib.Seq.{drop-cons, drop-drop, take-take}
 use lib.Dec.{leb, leb·zero, leb·suc-zero, leb·suc-suc}
 use borrow.Author.Tests.{leb-true, le-leb}
@@ -167,6 +167,14 @@ module _ {class : ℕ → Bool} {xs : List ℕ} {i : ℕ} (r : Ran class xs i) w
 
   pub ran-more : i < length xs → class (getD xs i 0) ≡ true → Ran class xs (i + 1)
   ran-more h e = record { inside = omega arith; left = omega (arith, r .left, on class xs i h e) }
+
+  -- a block of the class at once
+  pub ran-block : (n : ℕ) → i + n ≤ length xs → only class (take n (drop i xs)) ≡ true → Ran class xs (i + n)
+  ran-block n h e =
+      let ys = drop i xs in
+      let t : run class ys ≡ length (take n ys) + run class (drop n ys) = rw take-append-drop at (through class (take n ys) (drop n ys) (all-of class (take n ys) e)) in
+      let k : n ≤ run class ys = omega (arith, length-take n ys, length-drop i xs) in
+      record { inside = h; left = omega (arith, r .left, passed class xs i n k) }
 
   pub ran-end : i < length xs → class (getD xs i 0) ≡ false → i ≡ run class xs
   ran-end h e = omega (arith, r .left, stop class xs i h e)

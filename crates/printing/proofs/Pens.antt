@@ -105,11 +105,7 @@ bare text p number first rows none e = e ∙ rw (run-none (belongs number) (drop
 
 -- ---- without a buffer
 
--- a piece is counted as it is laid
-pub alone : {pen next : Pen} {piece old new : List ℕ} → Penned pen piece old new next → Penned pen piece [] [] next
-alone {pen} {piece = piece} p = record { left = p .left; lays = counts (pen .at) (foldedUnits (pen .left) (units piece)) (p .lays .count) }
-
--- and so is CRLF
+-- CRLF is counted as it is laid
 pub closed-count : {next : Pen} {line : List ℕ} {n : ℕ} → Penned (record { left = first; at = 0 }) line [] [] next → n ≡ counted (next .at + 2)
     → n ≡ counted (length (closedLine line))
 closed-count {next} p e = from-front (both (p .lays) (counts (next .at) (cr ∷ lf ∷ []) e) zero-le)

@@ -229,8 +229,12 @@ fn count_piece(pen: Pen, piece: &[u8]) -> Pen
             at: octets::count_on(pen.at, piece.len()),
         };
     }
-    let mut none = [0u8; 0];
-    lay_piece(pen, piece, &mut none)
+    let column = Column { left: pen.left };
+    let counted = folding::count_piece(column, piece);
+    Pen {
+        left: counted.column.left,
+        at: octets::count_on(pen.at, counted.length),
+    }
 }
 
 // Counts a value that is present.

@@ -15,7 +15,9 @@ use Rattle.octets.proofs.Bools.{both}
 use Rattle.octets.proofs.Runs.{only-both}
 use Rattle.parameters.specs.Values.{isList}
 use Rattle.characters.specs.Utf8.{utf8Run, isUtf8}
+use Rattle.characters.specs.Quick.{commonText}
 use Rattle.characters.proofs.Utf8.{ascii-utf8}
+use Rattle.characters.proofs.Quick.{common-utf8, common-only, shown-other}
 use Rattle.tables.specs.Rows.{componentSize, propertySize, componentAt, propertyAt, rowsOf}
 use Rattle.tables.specs.Lent.{Lent, componentsIn, propertiesIn, parametersIn}
 use Rattle.tables.proofs.Laws.{length-rows, row-here, rows-end}
@@ -30,6 +32,9 @@ module _ (value : List ℕ) where
   fine-value e =
       let b = both (only noBreak value) (only ascii value) (sym (only-both noBreak ascii value) ∙ e) in
       rw (b .0, ascii-utf8 value (b .1)) refl
+
+  pub common-value : commonText value ≡ true → Verdict.Fine ≡ verdict (only noBreak value) (isUtf8 value)
+  common-value e = rw (common-only noBreak (λ x s. rw (shown-other cr x (omega arith) s, shown-other lf x (omega arith) s)) value e, common-utf8 value e) refl
 
   module _ {r n : Bool} (no-cr : r ≡ only (other cr) value) (no-lf : n ≡ only (other lf) value) where
     unbroken : r && n ≡ only noBreak value

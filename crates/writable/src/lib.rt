@@ -95,6 +95,9 @@ fn value_verdict(text: &[u8], start: u32, len: u32) -> Verdict
         return Verdict::Fine;
     }
     let value = octets::view(text, start as usize, len as usize);
+    if characters::is_common_text(value) {
+        return Verdict::Fine;
+    }
     if !(lacks(value, b'\r') & lacks(value, b'\n')) {
         return Verdict::Unwritable;
     }

@@ -5,7 +5,7 @@ use borrow.Author.Tests.{leb-true}
 use Rattle.octets.specs.Bytes.{ascii}
 use Rattle.octets.specs.Runs.{run}
 use Rattle.octets.specs.Answers.{notAscii}
-use Rattle.folding.proofs.Answers.{too-long, by-bytes, nothing-wrong}
+use Rattle.folding.proofs.Answers.{foldable-is, too-long, by-bytes, nothing-wrong}
 use Rattle.folding.proofs.check_repository.Statement.{statement}
 use Rattle.folding.proofs.check_repository.Tie as tie
 
@@ -27,7 +27,8 @@ returns-2 : tie.Need-returns-2
 returns-2 c =
     let a = c .before .before in
     let line = a .before .before .before .args .line .now in
-    c .refuse2 .ensures ∙ nothing-wrong notAscii (run ascii line) line (a .before .if1 .left) (sym (a .all-foldable .ensures) ∙ c .before .if2 .taken) (λ e. leb-true _ _ e)
+    let f = foldable-is line (sym (a .all-foldable .ensures) ∙ c .before .if2 .taken) in
+    c .refuse2 .ensures ∙ nothing-wrong notAscii (run ascii line) line (a .before .if1 .left) (f .0) (leb-true _ _ (f .1))
 
 ascii-run-requires : tie.Need-ascii-run-requires
 ascii-run-requires c κs = search needs

@@ -1,37 +1,18 @@
 -- `folding::fold_piece`: what is laid so far, and what is to come, are the piece folded.
 use native.Mathlib.Omega.{arith}
-use mathlib.Core.Path.{_≡_, refl, _∙_}
-use mathlib.Core.Bool.{Bool, true, false}
-use Prim.Native.Nat.{ℕ, _+_, _-_, _≤_, _<_}
-use Rattle.folding.specs.declared.Column.{Column}
-use Rattle.folding.specs.declared.Folded.{Folded}
+use mathlib.Core.Path.{_∙_}
 use lib.ListN.{length}
-use lib.Dec.{leb}
-use borrow.Author.Tests.{leb-true, leb-false}
 use borrow.Author.Needs.{needs}
 use Rattle.octets.proofs.Writing.{from-front}
-use Rattle.folding.proofs.Strict.{Folding, begin, longer, within-line, moves, turn, finish}
+use Rattle.folding.proofs.Strict.{ahead, fewer, same, Folding, begin, longer, within-line, moves, turn, finish}
 use Rattle.folding.proofs.fold_piece.Statement.{statement}
 use Rattle.folding.proofs.fold_piece.Tie as tie
-
-same : {c : Column} {n left m : ℕ} → c .left ≡ left → n ≡ m
-    → _≡_ {A = Folded} (record { column = c; length = n }) (record { column = record { left = left }; length = m })
-same {c} {n} {left} {m} p q = rw (← p, q)
-
--- a line that takes no character is followed by one that does
-fewer : (size at left k : ℕ) → left < size - at → k ≤ left → (4 ≤ left → 0 < k) → size - (at + k) + (4 - 74) < size - at + (4 - left)
-fewer size at left k h w m = go (leb 4 left) refl
-  where
-    go : (t : Bool) → leb 4 left ≡ t → size - (at + k) + (4 - 74) < size - at + (4 - left)
-    go true t = omega (arith, m (leb-true 4 left t))
-    go false t = omega (arith, leb-false 4 left t)
 
 abbrev Inv-loop : tie.InvT-loop
 Inv-loop piece out₀ left₀ at₀ n₀ out left at n = Folding out₀ out piece left₀ left at n
 
--- a character has no more than four octets
 abbrev μ-loop : tie.MeasureT-loop
-μ-loop piece out₀ left₀ at₀ n₀ out left at n = length piece - at + (4 - left)
+μ-loop piece out₀ left₀ at₀ n₀ out left at n = ahead (length piece) at left
 
 abbrev At : (tie.InvT-loop → tie.MeasureT-loop → Type 0) → Type 0
 At place = place Inv-loop μ-loop

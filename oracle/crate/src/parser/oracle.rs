@@ -15,9 +15,9 @@ use std::time::Instant;
 
 type VE<'a> = VerboseError<&'a str>;
 
-const PARTS: [&str; 17] = [
+const PARTS: [&str; 18] = [
     "unfold", "key", "keyseq", "param", "params", "fold", "quote", "read", "write", "readwrite",
-    "escape", "unescape", "strict", // compared
+    "escape", "unescape", "strict", "foldstrict", // compared
     "property", "readrest", "components", // to look at only
     "replay", // any of those with a letter, named by each case itself
 ];
@@ -39,6 +39,7 @@ fn lettered(case: &[u8]) -> Option<(&'static str, &[u8])> {
         b'e' => "escape",
         b't' => "unescape",
         b'T' => "strict",
+        b'F' => "foldstrict",
         _ => return None,
     };
     Some((part, rest))
@@ -205,7 +206,7 @@ fn one(part: &str, raw: &[u8]) -> String {
             }
             Err(_) => err(),
         },
-        "fold" => ok_hex(&fold_line(s)),
+        "fold" | "foldstrict" => ok_hex(&fold_line(s)),
         "quote" => ok_hex(&oracle_quote_special_chars(s)),
         // unfold, then read_component
         "read" => match read_component(&unfold(s)) {
