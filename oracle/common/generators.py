@@ -466,7 +466,7 @@ class Layout:
         """Start and length of a part: behind the rest of the text or, by dice, where it stands already."""
         at = -1
         if self.rng and self.rng.random() < .5:
-            at = self.text.find(part, self.rng.randint(0, len(self.text)))
+            at = self.text.find(part, len(cut_to(self.text, self.rng.randint(0, len(self.text)))))
         if at < 0:
             at = len(self.text)
             self.text += part
