@@ -1,3 +1,4 @@
+-- `characters::barred_before`: each way by its test.
 use borrow.Author.Tests.{lt-ltb, le-ltb}
 use Rattle.characters.proofs.barred_before.Statement.{statement}
 use Rattle.characters.proofs.barred_before.Tie as tie

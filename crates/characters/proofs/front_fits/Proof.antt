@@ -1,3 +1,4 @@
+-- `characters::front_fits`: the first two bytes, behind none.
 use borrow.Author.Needs.{needs}
 use Rattle.characters.proofs.front_fits.Statement.{statement}
 use Rattle.characters.proofs.front_fits.Tie as tie

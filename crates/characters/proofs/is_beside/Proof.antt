@@ -1,3 +1,4 @@
+-- `characters::is_beside`: the same tests in the same brackets.
 use borrow.Author.Needs.{needs}
 use Rattle.characters.proofs.is_beside.Statement.{statement}
 use Rattle.characters.proofs.is_beside.Tie as tie

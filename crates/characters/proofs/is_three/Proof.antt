@@ -1,35 +1,26 @@
+-- `characters::is_three`: the four rows of the grammar.
 use borrow.Author.Needs.{needs}
 use Rattle.characters.proofs.is_three.Statement.{statement}
 use Rattle.characters.proofs.is_three.Tie as tie
-use Rattle.characters.proofs.is_three.Reads as reads
-use Rattle.characters.proofs.is_three.Lts as lts
-use Rattle.characters.proofs.is_tail.Reads as is-tail-reads
 
--- src/lib.rt:59:62
 is-tail-requires : tie.Need-is-tail-requires
 is-tail-requires c κs = search needs
 
--- src/lib.rt:60:46
 is-tail-requires-2 : tie.Need-is-tail-requires-2
 is-tail-requires-2 c κs = search needs
 
--- src/lib.rt:60:59
 is-tail-requires-3 : tie.Need-is-tail-requires-3
 is-tail-requires-3 c κs = search needs
 
--- src/lib.rt:61:71
 is-tail-requires-4 : tie.Need-is-tail-requires-4
 is-tail-requires-4 c κs = search needs
 
--- src/lib.rt:62:46
 is-tail-requires-5 : tie.Need-is-tail-requires-5
 is-tail-requires-5 c κs = search needs
 
--- src/lib.rt:62:59
 is-tail-requires-6 : tie.Need-is-tail-requires-6
 is-tail-requires-6 c κs = search needs
 
--- src/lib.rt:56:1
 returns : tie.Need-returns
 returns c = cc
 
