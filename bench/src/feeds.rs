@@ -92,6 +92,8 @@ pub fn feed(kind: &str, bytes: usize) -> String {
         "wide" => one_line(&WIDE.join(" "), bytes),
         "hostile" => hostile(bytes),
         "doubled" => doubled(bytes),
+        "reordered" => reordered(bytes),
+        "crowd" => crowd(bytes),
         "copied" => copied(bytes),
         "commas" => commas(bytes),
         _ => panic!("no feed is called {kind}"),
@@ -126,6 +128,58 @@ fn doubled(bytes: usize) -> String {
         }
         once.clone()
     })
+}
+
+/// Attendees with four parameters, each twice: the second time backwards, with the names in small letters.
+fn reordered(bytes: usize) -> String {
+    let mut dice = Dice(SEED);
+    let mut once = (String::new(), [const { String::new() }; 4]);
+    wrapped("VCALENDAR", bytes, "\r\n", |n| {
+        if n % 2 == 0 {
+            let given = [
+                format!("CN=\"{}\"", dice.pick(PLAIN.names)),
+                format!("ROLE={}", dice.pick(&["CHAIR", "REQ-PARTICIPANT"])),
+                format!("PARTSTAT={}", dice.pick(&["ACCEPTED", "TENTATIVE"])),
+                format!("RSVP={}", dice.pick(&["TRUE", "FALSE"])),
+            ];
+            once = (format!("mailto:{}@agency.example", dice.below(900)), given);
+            return attended("ATTENDEE", once.1.iter().cloned(), &once.0);
+        }
+        let small = |given: &String| {
+            let (name, value) = given.split_once('=').unwrap();
+            format!("{}={value}", name.to_lowercase())
+        };
+        attended("attendee", once.1.iter().rev().map(small), &once.0)
+    })
+}
+
+/// Two attendees with as many parameters as there is room for, each another one, and in the second backwards: what counting them takes most for.
+fn crowd(bytes: usize) -> String {
+    let room = (bytes - 120) / 2;
+    let mut given: Vec<String> = Vec::new();
+    let mut length = 0;
+    for n in 0.. {
+        let name = letters(n);
+        length += 1 + name.len();
+        if length > room {
+            break;
+        }
+        given.push(name);
+    }
+    let one = attended("ATTENDEE", given.iter().cloned(), "x");
+    let other = attended("ATTENDEE", given.iter().rev().cloned(), "x");
+    format!("BEGIN:VCALENDAR\r\n{one}{other}END:VCALENDAR\r\n")
+}
+
+/// The n-th word of letters, the shortest first.
+fn letters(n: usize) -> String {
+    let last = char::from(b'A' + (n % 26) as u8);
+    if n < 26 { last.to_string() } else { letters(n / 26 - 1) + &last.to_string() }
+}
+
+fn attended(name: &str, given: impl Iterator<Item = String>, value: &str) -> String {
+    let given: String = given.map(|parameter| format!(";{parameter}")).collect();
+    format!("BEGIN:VEVENT\r\n{name}{given}:{value}\r\nEND:VEVENT\r\n")
 }
 
 /// A calendar and its copy by an agency that escapes commas. A name that the Rust does not know: it would unescape a DESCRIPTION when it reads it.

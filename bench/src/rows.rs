@@ -5,7 +5,7 @@ use crate::clock::Clock;
 use crate::libical;
 use crate::ours::{self, Lent};
 use icalendar::parser::oracle::{escaped, folded, quoted, unescaped, written};
-use icalendar::parser::{Component, read_component, unfold};
+use icalendar::parser::{Component, Parameter, Property, read_component, unfold};
 use std::hint::black_box;
 
 pub struct Row {
@@ -40,6 +40,7 @@ pub const ROWS: &[Row] = &[
     QUOTE,
     WRITE,
     TWINS,
+    ORDERS,
     TEXT,
     ESCAPE,
     LOOSE,
@@ -198,6 +199,58 @@ fn like_before(tree: &Component) -> usize {
     tree.components.windows(2).filter(|pair| pair[0] == pair[1]).count()
 }
 
+/// The same where twins have their parameters in another order, and names in another case. The Rust's `==` would not find them: its trees are compared
+/// with names without case and with the parameters of each pair of properties sorted first, in memory of its own.
+const ORDERS: Row = Row {
+    name: "orders",
+    feeds: &[("reordered", 1 << 20), ("reordered", 1 << 19), ("crowd", 1 << 20), ("crowd", 1 << 19), ("crowd", 1 << 18)],
+    parts: |feed| vec![feed],
+    ours: |parts, lent, clock| {
+        let told = ours::read(parts[0].as_bytes(), lent);
+        clock.start();
+        black_box(ours::neighbours(black_box(told), lent));
+        clock.stop();
+    },
+    theirs: |parts, clock| {
+        let text = unfold(&parts[0]);
+        let tree = read_component(&text).unwrap();
+        clock.start();
+        black_box(twins_before(black_box(&tree)));
+        clock.stop();
+    },
+    same: |parts, lent| {
+        let told = ours::read(parts[0].as_bytes(), lent);
+        let text = unfold(&parts[0]);
+        let tree = read_component(&text).unwrap();
+        like_before(&tree) == 0 && twins_before(&tree) > 0 && ours::neighbours(told, lent) == [0, 0, twins_before(&tree)]
+    },
+};
+
+/// How many components are twins of the one before them.
+fn twins_before(tree: &Component) -> usize {
+    tree.components.windows(2).filter(|pair| are_twins(&pair[0], &pair[1])).count()
+}
+
+/// Names without case, equal values, and the same parameters in any order.
+fn are_twins(a: &Component, b: &Component) -> bool {
+    alike(a, b, |p, q| p.name.as_str().eq_ignore_ascii_case(q.name.as_str()) && p.val == q.val && sorted(&p.params) == sorted(&q.params))
+}
+
+/// Whether two trees are equal but for properties that are the same by a test.
+fn alike(a: &Component, b: &Component, same: fn(&Property, &Property) -> bool) -> bool {
+    a.name == b.name
+        && a.properties.len() == b.properties.len()
+        && a.components.len() == b.components.len()
+        && a.properties.iter().zip(&b.properties).all(|(p, q)| same(p, q))
+        && a.components.iter().zip(&b.components).all(|(c, d)| alike(c, d, same))
+}
+
+fn sorted<'a>(given: &'a [Parameter]) -> Vec<(String, Option<&'a str>)> {
+    let mut all: Vec<_> = given.iter().map(|p| (p.key.as_str().to_ascii_lowercase(), p.val.as_ref().map(|val| val.as_str()))).collect();
+    all.sort_unstable();
+    all
+}
+
 /// Texts: every value of a calendar, one of 1 MiB that has nothing to escape, and one of commas alone.
 const TEXTS: &[(&str, usize)] =
     &[("calendar", 1 << 20), ("calendar", 1 << 19), ("one-line", 1 << 20), ("commas", 1 << 20), ("commas", 1 << 19)];
@@ -254,13 +307,7 @@ fn unescaped_own(value: &str) -> String {
 
 /// Whether two trees are equal but for values that are the same text.
 fn alike_as_texts(a: &Component, b: &Component) -> bool {
-    a.name == b.name
-        && a.properties.len() == b.properties.len()
-        && a.components.len() == b.components.len()
-        && a.properties.iter().zip(&b.properties).all(|(p, q)| {
-            p.name == q.name && unescaped(p.val.as_str()) == unescaped(q.val.as_str()) && p.params == q.params
-        })
-        && a.components.iter().zip(&b.components).all(|(c, d)| alike_as_texts(c, d))
+    alike(a, b, |p, q| p.name == q.name && unescaped(p.val.as_str()) == unescaped(q.val.as_str()) && p.params == q.params)
 }
 
 /// Every value of a feed.

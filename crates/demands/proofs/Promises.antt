@@ -6,7 +6,7 @@
 -- Assumes nothing.
 use mathlib.Core.Path.{_≡_}
 use mathlib.Core.Bool.{true, _&&_}
-use mathlib.Core.List.{List, [], _++_}
+use mathlib.Core.List.{List, [], _++_, map}
 use mathlib.Core.Logic.{_↔_}
 use Prim.Native.Nat.{ℕ, _≤_, _<_}
 use lib.ListN.{length, drop}
@@ -38,8 +38,15 @@ use Rattle.escapes.specs.Grammar.{StandsFor}
 use Rattle.escapes.proofs.Grammar.{reads}
 use Rattle.printing.specs.Lines.{propertyLine, written}
 use Rattle.writing.specs.Answers.{writtenIn, writeAnswer, writeOut}
+use Rattle.comparing.specs.Multisets.{manyOf}
+use Rattle.comparing.specs.Orders.{Reordered}
+use Rattle.comparing.specs.Pieces.{sameParameter, sameParameters}
+use Rattle.comparing.proofs.Multisets.{as-often-exactly}
+use Rattle.comparing.proofs.Pieces.{of-parameter}
+use Rattle.matching.specs.Meaning.{inLowerCase, TwinTrees}
+use Rattle.matching.proofs.Meaning.{parameters-mean}
 use Rattle.twins.specs.Answers.{levels, compared, twinsAnswer}
-use Rattle.twins.proofs.Laws.{Asked, Twins, twins-exactly, twin-itself, twin-turned, twin-joined, LooseTwins, twin-is-loose, loose-itself, loose-turned, loose-joined}
+use Rattle.twins.proofs.Laws.{Asked, Twins, twins-exactly, equal-are-twins, twin-itself, twin-turned, twin-joined, LooseTwins, twin-is-loose, loose-itself, loose-turned, loose-joined}
 use Rattle.demands.specs.Calls.{Determined}
 use Rattle.demands.specs.Lent.{Roomier, textOnly, toldOf}
 use Rattle.demands.specs.Outputs.{FitTables, RoomDecides, toldBytes}
@@ -188,18 +195,30 @@ pub read-again : (feed : List ℕ) (b : Lent) (out : List ℕ) →
     (readInto again b′ .answer ≡ done) × (treesIn (toldOf (readInto again b′) (left again b′)) ≡ treesIn t)
 read-again = trip.read-write-read
 
--- 11. Components that are written alike are equal, in whichever tables they stand: the written form is a key by which twins are found across any
--- number of feeds. [B-69, B-71]
+-- 11. Components that are written alike are equal, in whichever tables they stand, and so are twins: the written form is a key by which copies are found
+-- across any number of feeds. Twins need not be written alike: keys may differ in case, and parameters in order. [B-69, B-71, R5-02]
 pub written-is-key : (b b′ : Lent) (room room′ : ℕ) → writeAnswer b room .answer ≡ done → writeAnswer b′ room′ .answer ≡ done
     → (row row′ : ℕ) → row < length (componentsIn (b .components)) → row′ < length (componentsIn (b′ .components))
     → written (treeIn b levels row) ≡ written (treeIn b′ levels row′) → treeIn b levels row ≡ treeIn b′ levels row′
 written-is-key = trip.written-key
 
--- 12. The twin test answers 1 exactly where the table rule is met, both rows are there, and their trees are equal. [B-14, B-36, B-71]
-pub twins-are-equal : (b : Lent) (one other : ℕ) → (twinsAnswer b one other ≡ compared done 0 1) ↔ (Asked b one other × (treeIn b levels one ≡ treeIn b levels other))
-twins-are-equal = twins-exactly
+-- 12. The twin test answers 1 exactly where the table rule is met, both rows are there, and their trees are twins: equal names, properties and children in
+-- order, keys equal in lower case, values equal, and parameters equal in some order, with keys in lower case. [B-14, B-36, B-71, R5-01, R5-02, R5-04]
+pub twins-are-twins : (b : Lent) (one other : ℕ) → (twinsAnswer b one other ≡ compared done 0 1) ↔ (Asked b one other × TwinTrees (treeIn b levels one) (treeIn b levels other))
+twins-are-twins = twins-exactly
 
--- 13. So twins is an equivalence on the rows of one table. [B-71]
+-- 12a. Rows whose trees are equal are twins. [B-71, R5-02]
+pub equal-trees : (b : Lent) (one other : ℕ) → Asked b one other → treeIn b levels one ≡ treeIn b levels other → twinsAnswer b one other ≡ compared done 0 1
+equal-trees = equal-are-twins
+
+-- 12b. The parameters of two properties are the same exactly if each parameter, taken by its key without case and its value, stands in both as often; and
+-- exactly if some order of the one, keys in lower case, is the other. [R5-01]
+pub parameters-are-multisets : (ps qs : List Parameter)
+    → ((sameParameters ps qs ≡ true) ↔ ((p : Parameter) → manyOf sameParameter p ps ≡ manyOf sameParameter p qs))
+    × ((sameParameters ps qs ≡ true) ↔ Reordered (map inLowerCase ps) (map inLowerCase qs))
+parameters-are-multisets ps qs = (as-often-exactly of-parameter ps qs, parameters-mean ps qs)
+
+-- 13. Twins is an equivalence on the rows of one table. [B-71, R5-01]
 pub twins-are-alike : (b : Lent) → ((row : ℕ) → brokenIn b ≡ Nothing → row < length (componentsIn (b .components)) → Twins b row row)
     × ((one other : ℕ) → Twins b one other → Twins b other one)
     × ((one other third : ℕ) → Twins b one other → Twins b other third → Twins b one third)

@@ -195,7 +195,7 @@ module _ (b b′ : Lent) (room room′ : ℕ) (e : writeAnswer b room .answer �
       same-written (treesIn b) (treesIn b′) (accepted-fit b (a .1)) (accepted-fit b′ (a′ .1)) (shallow b) (shallow b′)
       (omega (arith, component-rows b (a .0), few-rows b room e)) (omega (arith, component-rows b′ (a′ .0), few-rows b′ room′ e′)) w
 
-  -- and so do two of their rows: what is written of a component is a key by which its twins are found, in whichever tables they stand
+  -- and so do two of their rows: what is written of a component is a key by which its copies are found, in whichever tables they stand
   pub written-key : (row row′ : ℕ) → row < length (componentsIn (b .components)) → row′ < length (componentsIn (b′ .components))
       → written (treeIn b levels row) ≡ written (treeIn b′ levels row′) → treeIn b levels row ≡ treeIn b′ levels row′
   written-key row row′ h h′ w =

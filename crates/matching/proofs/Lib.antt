@@ -2,3 +2,4 @@ pub mod Alike
 pub mod Parameters
 pub mod Properties
 pub mod Texts
+pub mod Meaning

@@ -18,7 +18,8 @@ use Rattle.walking.specs.declared.Window.{Window}
 use Rattle.walking.proofs.Walks.{held-rises}
 use Rattle.walking.proofs.Found.{in-window}
 use Rattle.walking.proofs.Own.{ownFrom, own-here, no-more, next-same, next-own, own-property, behind-own}
-use Rattle.matching.specs.Alike.{alike, sameParameters, samePropertyBy}
+use Rattle.comparing.specs.Pieces.{sameParameters}
+use Rattle.matching.specs.Alike.{alike, samePropertyBy}
 use Rattle.matching.proofs.Alike.{first-same, first-other, both-end, one-ends, other-ends}
 
 -- ---- the properties of one component, in the words of the tables

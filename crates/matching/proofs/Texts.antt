@@ -12,8 +12,10 @@ use Rattle.octets.proofs.Words.{same-eq}
 use Rattle.tables.specs.Trees.{Trees}
 use Rattle.escapes.specs.Text.{textOf}
 use Rattle.escapes.specs.Loose.{strictlyRead, sameText}
-use Rattle.matching.specs.Alike.{sameParameters, sameTreesBy, sameTrees}
-use Rattle.matching.proofs.Alike.{Equivalence, equality-is, equal-bytes, equal-parameters, of-parts, of-trees, twins-equal}
+use Rattle.comparing.specs.Pieces.{sameParameters}
+use Rattle.comparing.proofs.Equivalences.{Equivalence, of-bytes, of-parts}
+use Rattle.matching.specs.Alike.{sameTreesBy, sameTrees}
+use Rattle.matching.proofs.Alike.{trees-weaker}
 
 -- what a value goes by, behind a byte that tells whether it is read
 abbrev goesBy : List ℕ → List ℕ
@@ -41,13 +43,16 @@ by-same v w = go (strictlyRead v) refl (strictlyRead w) refl
 
 pub of-texts : Equivalence sameText
 of-texts =
-    let s = of-parts goesBy (equality-is equal-bytes) in
+    let s = of-parts goesBy of-bytes in
     record {
       itself = λ v. by-same v v ∙ s .itself v;
       turned = λ v w e. by-same w v ∙ s .turned v w (sym (by-same v w) ∙ e);
       joined = λ v w x e f. by-same v x ∙ s .joined v w x (sym (by-same v w) ∙ e) (sym (by-same w x) ∙ f);
     }
 
--- trees that the twin test passes, that of loose twins passes too: they are equal
+-- equal values are alike as texts, so trees that the twin test passes, that of loose twins passes too
 pub twins-are-loose : (a b : Trees) → sameTrees a b ≡ true → sameTreesBy sameText sameParameters a b ≡ true
-twins-are-loose a b e = rw (twins-equal .equal a b e) (of-trees of-texts (equality-is equal-parameters) .itself b)
+twins-are-loose = trees-weaker equal-alike sameParameters
+  where
+    equal-alike : (v w : List ℕ) → sameBytes v w ≡ true → sameText v w ≡ true
+    equal-alike v w e = rw (same-eq v w e) (of-texts .itself w)

@@ -1,12 +1,13 @@
--- When two trees are alike (document 01, "Writing and trees"): "if their trees are equal, byte by byte". Names, keys, values, presence and
--- orders count; depth and row numbers are no part of a tree.
--- What is compared is named piece by piece, and trees are compared over any test of values and any test of parameter lists: later tests differ in these.
+-- When two trees are alike: piece by piece (document 01, "Writing and trees", and document 02, request 5). The orders of properties and of children
+-- count; depth and row numbers are no part of a tree.
+-- Trees are compared over any test of values and any test of parameter lists; the pieces are those of `comparing`.
+-- Here document 01 departs from the RFC: docs/DIFFERENCES.md, R-29.
 -- Assumes nothing.
 use Prim.Native.Nat.{ℕ}
 use mathlib.Core.Bool.{Bool, true, false, _&&_}
 use mathlib.Core.List.{List, [], _∷_}
-use Rattle.octets.specs.Words.{sameBytes}
-use Rattle.tables.specs.Trees.{Value, absent, present, Parameter, Property, Trees, none, tree}
+use Rattle.tables.specs.Trees.{Parameter, Property, Trees, none, tree}
+use Rattle.comparing.specs.Pieces.{sameName, sameKey, sameValue, sameParameters}
 
 -- as many, and each like the other's
 unfoldable pub alike : {A : Type 0} → (A → A → Bool) → List A → List A → Bool
@@ -14,34 +15,6 @@ alike same [] [] = true
 alike same [] (y ∷ ys) = false
 alike same (x ∷ xs) [] = false
 alike same (x ∷ xs) (y ∷ ys) = same x y && alike same xs ys
-
--- ---- the pieces
-
--- the names of two components
-abbrev pub sameName : List ℕ → List ℕ → Bool
-sameName = sameBytes
-
--- the keys of two properties, or of two parameters
-abbrev pub sameKey : List ℕ → List ℕ → Bool
-sameKey = sameBytes
-
--- the values of two properties
-abbrev pub sameValue : List ℕ → List ℕ → Bool
-sameValue = sameBytes
-
--- the values of two parameters: one that is present and empty is not like an absent one
-abbrev pub sameHeld : Value → Value → Bool
-sameHeld absent absent = true
-sameHeld absent (present w) = false
-sameHeld (present v) absent = false
-sameHeld (present v) (present w) = sameBytes v w
-
-abbrev pub sameParameter : Parameter → Parameter → Bool
-sameParameter p q = sameKey (p .key) (q .key) && sameHeld (p .value) (q .value)
-
--- the parameters of two properties, in order
-abbrev pub sameParameters : List Parameter → List Parameter → Bool
-sameParameters = alike sameParameter
 
 -- ---- trees
 

@@ -4,7 +4,7 @@ use Prim.Native.Nat.{ℕ}
 use mathlib.Core.Bool.{Bool}
 use mathlib.Core.List.{List}
 use Rattle.escapes.specs.Loose.{sameText}
-use Rattle.matching.specs.Alike.{sameValue}
+use Rattle.comparing.specs.Pieces.{sameValue}
 use Rattle.matching.specs.declared.Values.{Values}
 
 abbrev pub valuesBy : Values → List ℕ → List ℕ → Bool

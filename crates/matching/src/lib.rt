@@ -1,19 +1,17 @@
-// Whether two rows say the same: names, keys, values, parameters, and the properties of two components.
+// Whether two rows say the same: names, values, the parameters of two properties, and the properties of two components.
 ghost use mathlib.Core.Path.{_≡_};
 ghost use Prim.Native.Nat.{_<_, _/_};
 ghost use lib.ListN.{length};
 ghost use Rattle.octets.specs.Views.{viewed};
-ghost use Rattle.octets.specs.Words.{sameBytes};
 ghost use Rattle.tables.specs.Rows.{propertySize, propertyAt};
 ghost use Rattle.tables.specs.Lent.{propertiesIn, parametersIn};
-ghost use Rattle.tables.specs.Trees.{parameterOf, propertiesOf};
+ghost use Rattle.tables.specs.Trees.{propertiesOf};
 ghost use Rattle.tables.specs.Fronts.{ownParameters, ownProperty};
 ghost use Rattle.walking.specs.Places.{RisingParameters, Owns};
-ghost use Rattle.matching.specs.Alike.{alike, sameName, sameKey, sameParameter, sameParameters, samePropertyBy};
+ghost use Rattle.comparing.specs.Pieces.{sameName, sameParameters};
+ghost use Rattle.matching.specs.Alike.{alike, samePropertyBy};
 ghost use Rattle.matching.specs.Tests.{valuesBy};
-use octets::Span;
 use tables::ComponentRow;
-use tables::ParameterRow;
 use tables::PropertyRow;
 use walking::Window;
 
@@ -35,40 +33,13 @@ pub struct Side {
     pub window: Window,
 }
 
-// A start and a length as a row has them.
-fn span(start: u32, len: u32) -> Span
-    ensures { λ r. ⌜ (r .start ≡ start) × (r .len ≡ len) ⌝ }
-{
-    Span {
-        start: start as usize,
-        len: len as usize,
-    }
-}
-
-// Whether two parts of a text have the same bytes.
-fn same_part(text: &[u8], a: Span, b: Span) -> bool
-    ensures { λ r. ⌜ r ≡ sameBytes (viewed (now (text .entry)) (a .start) (a .len)) (viewed (now (text .entry)) (b .start) (b .len)) ⌝ }
-{
-    octets::same_bytes(
-        octets::view(text, a.start, a.len),
-        octets::view(text, b.start, b.len),
-    )
-}
-
 // Whether two components have the same name.
 pub fn same_name(text: &[u8], a: ComponentRow, b: ComponentRow) -> bool
     ensures { λ r. ⌜ r ≡ sameName (viewed (now (text .entry)) (a .«name_start») (a .«name_len»)) (viewed (now (text .entry)) (b .«name_start») (b .«name_len»)) ⌝ }
 {
-    let one = span(a.name_start, a.name_len);
-    let other = span(b.name_start, b.name_len);
-    same_part(text, one, other)
-}
-
-// Whether two properties, or two parameters, have the same key.
-fn same_key(text: &[u8], a: Span, b: Span) -> bool
-    ensures { λ r. ⌜ r ≡ sameKey (viewed (now (text .entry)) (a .start) (a .len)) (viewed (now (text .entry)) (b .start) (b .len)) ⌝ }
-{
-    same_part(text, a, b)
+    let one = comparing::span(a.name_start, a.name_len);
+    let other = comparing::span(b.name_start, b.name_len);
+    comparing::same_part(text, one, other)
 }
 
 // Whether two properties have the same value, by the test that is asked for.
@@ -76,10 +47,10 @@ pub fn same_value(values: Values, text: &[u8], p: PropertyRow, q: PropertyRow) -
     ensures { λ r. ⌜ r
         ≡ valuesBy values (viewed (now (text .entry)) (p .«value_start») (p .«value_len»)) (viewed (now (text .entry)) (q .«value_start») (q .«value_len»)) ⌝ }
 {
-    let one = span(p.value_start, p.value_len);
-    let other = span(q.value_start, q.value_len);
+    let one = comparing::span(p.value_start, p.value_len);
+    let other = comparing::span(q.value_start, q.value_len);
     match values {
-        Values::Exact => same_part(text, one, other),
+        Values::Exact => comparing::same_part(text, one, other),
         Values::AsText => escapes::same_text(
             octets::view(text, one.start, one.len),
             octets::view(text, other.start, other.len),
@@ -87,31 +58,7 @@ pub fn same_value(values: Values, text: &[u8], p: PropertyRow, q: PropertyRow) -
     }
 }
 
-// Whether two parameters are the same: their keys, and their values if they have one.
-fn same_parameter(text: &[u8], p: ParameterRow, q: ParameterRow) -> bool
-    ensures { λ r. ⌜ r ≡ sameParameter (parameterOf (now (text .entry)) p) (parameterOf (now (text .entry)) q) ⌝ }
-{
-    if !same_key(
-        text,
-        span(p.key_start, p.key_len),
-        span(q.key_start, q.key_len),
-    ) {
-        return false;
-    }
-    if p.present == 0 {
-        return q.present == 0;
-    }
-    if q.present == 0 {
-        return false;
-    }
-    same_part(
-        text,
-        span(p.value_start, p.value_len),
-        span(q.value_start, q.value_len),
-    )
-}
-
-// Whether two properties have the same parameters, in order.
+// Whether two properties have the same parameters, in any order.
 pub fn same_parameters(text: &[u8], parameters: &[u32], a: Held, b: Held) -> bool
     ensures { λ r. ⌜ r
         ≡ sameParameters (ownParameters (now (text .entry)) (a .property) (a .first) (parametersIn (now (parameters .entry))))
@@ -121,16 +68,10 @@ pub fn same_parameters(text: &[u8], parameters: &[u32], a: Held, b: Held) -> boo
     if walking::run_of(parameters, b.first, b.property) != count {
         return false;
     }
-    let mut i: usize = 0;
-    while i < count {
-        let p = tables::parameter_at(parameters, a.first + i);
-        let q = tables::parameter_at(parameters, b.first + i);
-        if !same_parameter(text, p, q) {
-            return false;
-        }
-        i += 1;
+    if count == 0 {
+        return true;
     }
-    true
+    comparing::same_runs(text, parameters, a.first, b.first, count)
 }
 
 // Whether two properties are the same: key, value and parameters.
@@ -149,10 +90,10 @@ pub fn same_property(
 {
     let p = tables::property_at(properties, a.property);
     let q = tables::property_at(properties, b.property);
-    if !same_key(
+    if !comparing::same_key(
         text,
-        span(p.key_start, p.key_len),
-        span(q.key_start, q.key_len),
+        comparing::span(p.key_start, p.key_len),
+        comparing::span(q.key_start, q.key_len),
     ) {
         return false;
     }

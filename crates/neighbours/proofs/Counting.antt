@@ -15,7 +15,8 @@ use Rattle.walking.specs.declared.Cursor.{Cursor}
 use Rattle.walking.proofs.Siblings.{end-later}
 use Rattle.walking.proofs.Walks.{reached-start, reached-on}
 use Rattle.walking.proofs.Along.{comps, props, params, Children, treesFrom, first-ahead, none-ahead, onward, begin-children, children-ahead}
-use Rattle.matching.specs.Alike.{sameValue, sameParameters, sameTrees}
+use Rattle.comparing.specs.Pieces.{sameValue, sameParameters}
+use Rattle.matching.specs.Alike.{sameTrees}
 use Rattle.matching.proofs.Alike.{none-first}
 use Rattle.twins.specs.Answers.{levels, twinRows}
 use Rattle.twins.specs.declared.Spot.{Spot}

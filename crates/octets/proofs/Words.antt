@@ -1,16 +1,16 @@
--- Laws of equal bytes and of words at the front of a line, one byte at a time. Assumes nothing.
-use mathlib.Core.Path.{_≡_, refl, ap, _∙_}
+-- Laws of equal bytes, of equal words and of words at the front of a line, one byte at a time. Assumes nothing.
+use mathlib.Core.Path.{_≡_, refl, sym, ap, _∙_}
 use mathlib.Core.Bool.{Bool, true, false, _&&_}
-use mathlib.Core.List.{List, [], _∷_}
+use mathlib.Core.List.{List, [], _∷_, map}
 use Prim.Native.Nat.{ℕ, suc, _+_, _≤_, _<_, zero-le, suc-le-suc}
 use native.Mathlib.Numerals.{add-one}
 use native.Mathlib.Omega.{arith}
-use lib.ListN.{length, getD, drop, drop-of-length-le}
+use lib.ListN.{length, getD, drop, drop-of-length-le, length-map}
 use lib.Seq.{drop-cons}
 use lib.Dec.{eqb}
 use borrow.Author.Tests.{eqb-true, eq-eqb, ne-eqb}
 use Rattle.octets.specs.Bytes.{lowered}
-use Rattle.octets.specs.Words.{sameBytes, startsWord}
+use Rattle.octets.specs.Words.{sameBytes, sameWord, startsWord}
 
 pub same-turn : (xs ys : List ℕ) (i : ℕ) → i < length xs → i < length ys
     → sameBytes (drop i xs) (drop i ys) ≡ eqb (getD xs i 0) (getD ys i 0) && sameBytes (drop (i + 1) xs) (drop (i + 1) ys)
@@ -49,6 +49,19 @@ pub same-refl : (xs : List ℕ) → sameBytes xs xs ≡ true
 unfolding sameBytes
 same-refl [] = refl
 same-refl (x ∷ xs) = rw (eq-eqb x x refl) (same-refl xs)
+
+-- words, letter by letter
+pub word-turn : (xs ys : List ℕ) (i : ℕ) → i < length xs → i < length ys
+    → sameWord (drop i xs) (drop i ys) ≡ eqb (lowered (getD xs i 0)) (lowered (getD ys i 0)) && sameWord (drop (i + 1) xs) (drop (i + 1) ys)
+unfolding sameBytes
+word-turn xs ys i h k = rw (drop-cons xs i 0 h, drop-cons ys i 0 k, add-one)
+
+pub word-ended : (xs ys : List ℕ) (i : ℕ) → length xs ≤ i → length ys ≤ i → sameWord (drop i xs) (drop i ys) ≡ true
+unfolding sameBytes
+word-ended xs ys i h k = rw (drop-of-length-le xs h, drop-of-length-le ys k)
+
+pub unlike-word : (xs ys : List ℕ) → (length xs ≡ length ys → ⊥) → sameWord xs ys ≡ false
+unlike-word xs ys h = unlike (map lowered xs) (map lowered ys) (λ e. h (sym (length-map xs lowered) ∙ (e ∙ length-map ys lowered)))
 
 pub starts-turn : (ws xs : List ℕ) (i : ℕ) → i < length ws → i < length xs
     → startsWord (drop i ws) (drop i xs) ≡ eqb (lowered (getD xs i 0)) (lowered (getD ws i 0)) && startsWord (drop (i + 1) ws) (drop (i + 1) xs)

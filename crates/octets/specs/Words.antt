@@ -1,8 +1,8 @@
--- Equal bytes, and a word at the front of a line in any case of its letters.
+-- Equal bytes, equal words in any case of their letters, and a word at the front of a line.
 -- Assumes nothing.
 use Prim.Native.Nat.{ℕ}
 use mathlib.Core.Bool.{Bool, true, false, _&&_}
-use mathlib.Core.List.{List, [], _∷_}
+use mathlib.Core.List.{List, [], _∷_, map}
 use lib.Dec.{eqb}
 use Rattle.octets.specs.Bytes.{lowered}
 
@@ -11,6 +11,10 @@ sameBytes [] [] = true
 sameBytes [] (y ∷ ys) = false
 sameBytes (x ∷ xs) [] = false
 sameBytes (x ∷ xs) (y ∷ ys) = eqb x y && sameBytes xs ys
+
+-- the same bytes whatever the case of the letters (RFC 5545, section 2): both in lower case are the same
+abbrev pub sameWord : List ℕ → List ℕ → Bool
+sameWord xs ys = sameBytes (map lowered xs) (map lowered ys)
 
 -- the word stands at the front of the line, whatever the case of the letters (RFC 5545, section 2)
 unfoldable pub startsWord : List ℕ → List ℕ → Bool

@@ -3,7 +3,7 @@ ghost use mathlib.Core.Path.{_≡_};
 ghost use mathlib.Core.List.{_∷_, [], _++_};
 ghost use Prim.Native.Nat.{_+_, _≤_, min};
 ghost use lib.ListN.{length, getD, take, drop};
-ghost use lib.Dec.{leb, ltb};
+ghost use lib.Dec.{eqb, leb, ltb};
 ghost use denote.Ref.{ptr};
 ghost use Rattle.octets.specs.Bytes.{keyByte, lowered, other};
 ghost use Rattle.octets.specs.Laid.{laid, counted, Lays};
@@ -11,7 +11,7 @@ ghost use Rattle.octets.specs.Answers.{roomAnswer};
 ghost use Rattle.octets.specs.Runs.{run};
 ghost use Rattle.octets.specs.Numbers.{marks, eight};
 ghost use Rattle.octets.specs.Classes.{member};
-ghost use Rattle.octets.specs.Words.{sameBytes, startsWord};
+ghost use Rattle.octets.specs.Words.{sameBytes, sameWord, startsWord};
 ghost use Rattle.octets.specs.Keys.{keyOf, opensReserved, reserved, standsAlone, stopsAt};
 ghost use Rattle.octets.specs.Views.{viewed, viewedAt, bytesOn};
 
@@ -365,6 +365,33 @@ fn lower(b: u8) -> u8
         return b;
     }
     b + 32
+}
+
+// Whether two bytes are the same, in any case if they are letters.
+fn same_letter(a: u8, b: u8) -> bool
+    ensures { λ r. ⌜ r ≡ eqb (lowered a) (lowered b) ⌝ }
+{
+    if a == b {
+        return true;
+    }
+    lower(a) == lower(b)
+}
+
+// Whether two words are the same, in any case of their letters.
+pub fn same_word(a: &[u8], b: &[u8]) -> bool
+    ensures { λ r. ⌜ r ≡ sameWord (now (a .entry)) (now (b .entry)) ⌝ }
+{
+    if a.len() != b.len() {
+        return false;
+    }
+    let mut i: usize = 0;
+    while i < a.len() {
+        if !same_letter(a[i], b[i]) {
+            return false;
+        }
+        i += 1;
+    }
+    true
 }
 
 // Whether the line starts with the word, in any case of its letters.

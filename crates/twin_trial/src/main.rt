@@ -12,6 +12,7 @@ use cases::fields::say_name;
 use cases::fields::which;
 use cases::lent::say_three;
 use libc::STDIN_FILENO;
+use tables::ParameterRow;
 use trial::say;
 
 // Room for all lines.
@@ -20,7 +21,7 @@ const LINES: usize = 65_536;
 // The most bytes of a feed that is given whole, and the most words of a table that is.
 const BYTES: usize = 512;
 
-const WORDS: usize = 24;
+const WORDS: usize = 36;
 
 fn count(text: &[u8], components: &[u32], properties: &[u32], parameters: &[u32], row: usize) {
     let told = neighbours::count_neighbours(text, components, properties, parameters, row);
@@ -144,11 +145,53 @@ fn ask_long(case: &[u8], bytes: &[u8]) {
     ask_lent(case, bytes, &mut text);
 }
 
+// How many parameters a property of a crowd has: more than the rows of one shelf (crates/sifting).
+const CROWD: u32 = 5000;
+
+// A parameter of the property, told from others by how long its value is.
+fn as_long(property: u32, length: u32) -> ParameterRow {
+    ParameterRow {
+        property,
+        key_start: 0,
+        key_len: 1,
+        present: 1,
+        value_start: 0,
+        value_len: length,
+    }
+}
+
+// Lays the parameters of two properties, those of the second backwards.
+fn lay_crowd(parameters: &mut [u32]) {
+    let mut n: u32 = 0;
+    while n < CROWD {
+        tables::put_parameter(parameters, n as usize, as_long(0, n));
+        tables::put_parameter(parameters, (CROWD + n) as usize, as_long(1, CROWD - 1 - n));
+        n += 1;
+    }
+}
+
+// Asks of two components with such properties. The third field has a row, and how long its value is instead.
+fn ask_lent_crowd(case: &[u8], change: &[u8], text: &[u8; 5000], parameters: &mut [u32; 60_000]) {
+    lay_crowd(parameters);
+    let mut changed = [0u32; 2];
+    lay_words(change, &mut changed);
+    tables::put_parameter(parameters, number(change, 0), as_long(1, changed[1]));
+    let components = [tables::NO_PARENT, 1, 0, 1, tables::NO_PARENT, 1, 0, 1];
+    let properties = [0u32, 0, 1, 0, 1, 1, 0, 1, 0, 1];
+    ask(case, text, &components, &properties, parameters);
+}
+
+fn ask_crowd(case: &[u8], change: &[u8]) {
+    let text = [b'P'; 5000];
+    let mut parameters = [0u32; 60_000];
+    ask_lent_crowd(case, change, &text, &mut parameters);
+}
+
 // The call on these bytes.
 fn call(case: &[u8], bytes: &[u8]) {
     let call = which(
         field(case, 0),
-        b"twins|neighbours|loose twins|feed|loose feed|nested|65 levels|long|loose long|",
+        b"twins|neighbours|loose twins|feed|loose feed|nested|65 levels|long|loose long|crowd|",
     );
     match call {
         0 | 1 | 2 => ask_tables(case, bytes),
@@ -156,6 +199,7 @@ fn call(case: &[u8], bytes: &[u8]) {
         5 => ask_nested(case, bytes),
         6 => ask_65(case),
         7 | 8 => ask_long(case, bytes),
+        9 => ask_crowd(case, bytes),
         _ => say(b" NO SUCH CALL"),
     }
 }

@@ -11,6 +11,7 @@ use Rattle.tables.specs.Fronts.{front}
 use Rattle.tables.specs.Lent.{Lent, lent, componentsIn, propertiesIn}
 use Rattle.tables.specs.Trees.{gather, forest}
 use Rattle.walking.specs.Walk.{windowCount, tally, foundBelow, inOrder}
+use Rattle.comparing.specs.Multisets.{manyOf, asOften}
 use Rattle.matching.specs.Alike.{alike, sameTreesBy}
 use Rattle.twins.specs.Answers.{compared, comparedBy, twinsAnswer}
 
@@ -35,7 +36,7 @@ tables value =
 answers : twinsAnswer (tables 1) 0 3 ∷ twinsAnswer (tables 1) 1 4 ∷ twinsAnswer (tables 0) 0 3 ∷ twinsAnswer (tables 0) 1 4 ∷ twinsAnswer (tables 1) 0 1
     ∷ twinsAnswer (tables 1) 7 6 ∷ twinsAnswer (tables 1) 5 6 ∷ []
     ≡ compared done 0 1 ∷ compared done 0 1 ∷ compared done 0 0 ∷ compared done 0 0 ∷ compared done 0 0 ∷ compared badTable 7 0 ∷ compared badTable 6 0 ∷ []
-unfolding comparedBy broken firstBroken outFrom tabulate gather forest alike sameTreesBy sameBytes
+unfolding comparedBy broken firstBroken outFrom tabulate gather forest alike sameTreesBy sameBytes manyOf asOften
 answers = refl
 
 -- the windows of twins may hold unequally many properties, though the tables are in order: these counts cannot tell components apart

@@ -23,7 +23,8 @@ use Rattle.walking.proofs.Found.{from-first}
 use Rattle.walking.proofs.Windows.{earlier}
 use Rattle.walking.proofs.Own.{own-property}
 use Rattle.walking.proofs.Lockstep.{is-there, stands-there}
-use Rattle.matching.specs.Alike.{alike, sameParameters, samePropertyBy}
+use Rattle.comparing.specs.Pieces.{sameParameters}
+use Rattle.matching.specs.Alike.{alike, samePropertyBy}
 use Rattle.matching.specs.declared.Held.{Held}
 use Rattle.matching.proofs.Alike.{first-other}
 use Rattle.twins.specs.Matched.{Fronts}

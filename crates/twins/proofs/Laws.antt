@@ -25,8 +25,13 @@ use Rattle.tables.proofs.Nested.{componentOf, depthOf, rows-nested}
 use Rattle.tables.proofs.Rule.{meets}
 use Rattle.walking.proofs.Along.{comps, props, params}
 use Rattle.escapes.specs.Loose.{sameText}
-use Rattle.matching.specs.Alike.{sameValue, sameParameters, sameTreesBy}
-use Rattle.matching.proofs.Alike.{Equivalence, equality-is, equal-bytes, equal-parameters, of-trees, twins-equal}
+use Rattle.comparing.specs.Pieces.{sameValue, sameParameters}
+use Rattle.comparing.proofs.Equivalences.{Equivalence, of-bytes}
+use Rattle.comparing.proofs.Pieces.{of-parameters}
+use Rattle.matching.specs.Alike.{sameTreesBy}
+use Rattle.matching.specs.Meaning.{TwinTrees}
+use Rattle.matching.proofs.Alike.{of-trees}
+use Rattle.matching.proofs.Meaning.{twins-mean}
 use Rattle.matching.proofs.Texts.{of-texts, twins-are-loose}
 use Rattle.twins.specs.Answers.{compared, levels, rowsAlikeBy, comparedBy, twinRows, twinsAnswer, looseTwinsAnswer}
 use Rattle.twins.specs.Tops.{before, treesAt, topRows}
@@ -86,35 +91,36 @@ module _ (values : List ℕ → List ℕ → Bool) (b : Lent) (first second : �
       is false true e = absurd (omega (arith, e))
       is false false e = refl
 
--- twins have equal trees
+-- what the answer of the twin test means
 module _ (b : Lent) (first second : ℕ) where
-  abbrev Equal : Type 0
-  Equal = treeIn b levels first ≡ treeIn b levels second
+  abbrev AreTwins : Type 0
+  AreTwins = TwinTrees (treeIn b levels first) (treeIn b levels second)
 
-  alike : Equal → twinRows b first second ≡ true
-  alike e = rw e (twins-equal .passes (treeIn b levels second))
+  meaning : (twinRows b first second ≡ true) ↔ AreTwins
+  meaning = twins-mean (treeIn b levels first) (treeIn b levels second)
 
-  equal : twinRows b first second ≡ true → Equal
-  equal = twins-equal .equal (treeIn b levels first) (treeIn b levels second)
-
-  -- Done with 1 exactly if the question can be asked and the trees are equal
-  pub twins-exactly : (twinsAnswer b first second ≡ compared done 0 1) ↔ (Asked b first second × Equal)
+  -- Done with 1 exactly if the question can be asked and the trees are twins
+  pub twins-exactly : (twinsAnswer b first second ≡ compared done 0 1) ↔ (Asked b first second × AreTwins)
   twins-exactly =
       let so = told-exactly sameValue b first second true in
-      (λ e. let a = so .0 e in (a .0, equal (a .1)), λ a. so .1 (a .0, alike (a .1)))
+      (λ e. let a = so .0 e in (a .0, meaning .0 (a .1)), λ a. so .1 (a .0, meaning .1 (a .1)))
 
   -- Done with 0 exactly if it can be asked and they are not
-  pub strangers-exactly : (twinsAnswer b first second ≡ compared done 0 0) ↔ (Asked b first second × (Equal → ⊥))
+  pub strangers-exactly : (twinsAnswer b first second ≡ compared done 0 0) ↔ (Asked b first second × (AreTwins → ⊥))
   strangers-exactly =
       let so = told-exactly sameValue b first second false in
-      (λ e. let a = so .0 e in (a .0, λ same. apart (a .1) (alike same)), λ a. so .1 (a .0, unlike (a .1) (twinRows b first second) refl))
+      (λ e. let a = so .0 e in (a .0, λ same. apart (a .1) (meaning .1 same)), λ a. so .1 (a .0, unlike (a .1) (twinRows b first second) refl))
     where
       apart : twinRows b first second ≡ false → twinRows b first second ≡ true → ⊥
       apart e f = let z : _≡_ {A = ℕ} 0 1 = cc in omega arith
 
-      unlike : (Equal → ⊥) → (t : Bool) → twinRows b first second ≡ t → t ≡ false
-      unlike h true t = absurd (h (equal t))
+      unlike : (AreTwins → ⊥) → (t : Bool) → twinRows b first second ≡ t → t ≡ false
+      unlike h true t = absurd (h (meaning .0 t))
       unlike h false t = refl
+
+  -- rows of equal trees are twins
+  pub equal-are-twins : Asked b first second → treeIn b levels first ≡ treeIn b levels second → twinsAnswer b first second ≡ compared done 0 1
+  equal-are-twins a e = told-exactly sameValue b first second true .1 (a, rw e (of-trees of-bytes of-parameters .itself (treeIn b levels second)))
 
 -- ---- an equivalence of the rows of tables that meet the rule, if values are compared by one
 
@@ -124,7 +130,7 @@ AlikeBy values b first second = comparedBy values b first second ≡ compared do
 
 module _ {values : List ℕ → List ℕ → Bool} (v : Equivalence values) (b : Lent) where
   abbrev trees : Equivalence (sameTreesBy values sameParameters)
-  trees = of-trees v (equality-is equal-parameters)
+  trees = of-trees v of-parameters
 
   row-itself : (row : ℕ) → brokenIn b ≡ Nothing → row < length (comps b) → AlikeBy values b row row
   row-itself row s h = told-exactly values b row row true .1 (record { sound = s; first-there = h; second-there = h }, trees .itself (treeIn b levels row))
@@ -155,13 +161,13 @@ LooseTwins b first second = looseTwinsAnswer b first second ≡ compared done 0 
 
 module _ (b : Lent) where
   pub twin-itself : (row : ℕ) → brokenIn b ≡ Nothing → row < length (comps b) → Twins b row row
-  twin-itself = row-itself (equality-is equal-bytes) b
+  twin-itself = row-itself of-bytes b
 
   pub twin-turned : (first second : ℕ) → Twins b first second → Twins b second first
-  twin-turned = row-turned (equality-is equal-bytes) b
+  twin-turned = row-turned of-bytes b
 
   pub twin-joined : (first second third : ℕ) → Twins b first second → Twins b second third → Twins b first third
-  twin-joined = row-joined (equality-is equal-bytes) b
+  twin-joined = row-joined of-bytes b
 
   pub loose-itself : (row : ℕ) → brokenIn b ≡ Nothing → row < length (comps b) → LooseTwins b row row
   loose-itself = row-itself of-texts b

@@ -24,7 +24,8 @@ use Rattle.walking.specs.declared.Window.{Window}
 use Rattle.walking.proofs.Rows.{name-is}
 use Rattle.walking.proofs.Sizes.{tree-components}
 use Rattle.walking.proofs.Along.{comps, props, params, treesFrom, first-ahead, none-ahead, onward, Children, begin-children, children-ahead, behind}
-use Rattle.matching.specs.Alike.{alike, sameName, sameParameters, samePropertyBy, sameTreesBy}
+use Rattle.comparing.specs.Pieces.{sameName, sameParameters}
+use Rattle.matching.specs.Alike.{alike, samePropertyBy, sameTreesBy}
 use Rattle.matching.specs.declared.Side.{Side}
 use Rattle.matching.proofs.Alike.{alone, first-then, none-both, none-first, none-second, other-count}
 use Rattle.twins.specs.Matched.{atRow, spotIn, Ended, Behind, Headed, Matched}

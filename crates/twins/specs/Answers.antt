@@ -10,7 +10,8 @@ use Rattle.octets.specs.Answers.{done, badTable}
 use Rattle.tables.specs.Lent.{Lent, componentsIn, brokenIn, treeIn}
 use Rattle.tables.specs.TableRule.{byTableRule, byNumber}
 use Rattle.escapes.specs.Loose.{sameText}
-use Rattle.matching.specs.Alike.{sameValue, sameParameters, sameTreesBy}
+use Rattle.comparing.specs.Pieces.{sameValue, sameParameters}
+use Rattle.matching.specs.Alike.{sameTreesBy}
 use Rattle.twins.specs.declared.Compared.{Compared}
 
 -- answer, place, and 1 for twins, else 0
@@ -25,7 +26,8 @@ levels = 63
 abbrev pub rowsAlikeBy : (List ℕ → List ℕ → Bool) → Lent → ℕ → ℕ → Bool
 rowsAlikeBy values b first second = sameTreesBy values sameParameters (treeIn b levels first) (treeIn b levels second)
 
--- "two component rows of one reading are twins if their trees are equal, byte by byte"
+-- "two component rows of one reading are twins if their trees are equal, byte by byte", but for keys, which are compared "without regard to ASCII case",
+-- and parameters, "as a multiset" (document 02, request 5)
 abbrev pub twinRows : Lent → ℕ → ℕ → Bool
 twinRows = rowsAlikeBy sameValue
 

@@ -11,7 +11,8 @@ use Rattle.tables.specs.declared.PropertyRow.{PropertyRow}
 use Rattle.tables.specs.declared.ParameterRow.{ParameterRow}
 use Rattle.walking.specs.Walk.{endOf, heldBefore, windowFirst, Reached}
 use Rattle.walking.specs.declared.Window.{Window}
-use Rattle.matching.specs.Alike.{alike, sameName, sameParameters, samePropertyBy, sameTreesBy}
+use Rattle.comparing.specs.Pieces.{sameName, sameParameters}
+use Rattle.matching.specs.Alike.{alike, samePropertyBy, sameTreesBy}
 use Rattle.matching.specs.declared.Held.{Held}
 use Rattle.twins.specs.declared.Spot.{Spot}
 use Rattle.twins.specs.declared.Match.{Match}

@@ -10,7 +10,8 @@ ghost use Rattle.tables.specs.Lent.{lent, componentsIn, propertiesIn, parameter
 ghost use Rattle.tables.specs.Trees.{propertiesOf};
 ghost use Rattle.walking.specs.Walk.{ownedBy, stands, inOrder, Reached, Holds};
 ghost use Rattle.walking.specs.Places.{RisingParameters, Ruled, Arrived};
-ghost use Rattle.matching.specs.Alike.{alike, sameParameters, samePropertyBy};
+ghost use Rattle.comparing.specs.Pieces.{sameParameters};
+ghost use Rattle.matching.specs.Alike.{alike, samePropertyBy};
 ghost use Rattle.matching.specs.Tests.{valuesBy};
 ghost use Rattle.twins.specs.Answers.{compared, rowsAlikeBy, comparedBy, twinsAnswer, looseTwinsAnswer};
 ghost use Rattle.twins.specs.Matched.{atRow, spotIn, Fronts, Headed, Matched};

@@ -24,6 +24,7 @@ use Rattle.escapes.specs.Text.{fine, textOf, asValue}
 use Rattle.writable.specs.WritingRule.{judgedFrom, judgedIn}
 use Rattle.printing.specs.Lines.{parametersText, propertyLines, written}
 use Rattle.writing.specs.Answers.{writeAnswer}
+use Rattle.comparing.specs.Multisets.{manyOf, asOften}
 use Rattle.matching.specs.Alike as matching
 use Rattle.twins.specs.Answers.{comparedBy}
 use Rattle.neighbours.specs.Counts.{repeats, neighboursAnswer}
@@ -267,51 +268,63 @@ in-order = refl
 -- ---- the twin test: twins (1), no twins (0), 14 by the table rule, 14 by a row number, and their order
 
 pub alike : wrong twins.alikeCases ≡ []
-unfolding bytes comesTrue wrong sameBytes tabulate broken firstBroken outFrom gather forest matching.alike matching.sameTreesBy comparedBy
+unfolding bytes comesTrue wrong sameBytes tabulate broken firstBroken outFrom gather forest manyOf asOften matching.alike matching.sameTreesBy comparedBy
 alike = refl
 
+pub any-case-or-order : wrong twins.anyCaseOrOrder ≡ []
+unfolding bytes comesTrue wrong sameBytes tabulate broken firstBroken outFrom gather forest manyOf asOften matching.alike matching.sameTreesBy comparedBy
+any-case-or-order = refl
+
+pub other-multiset : wrong twins.otherMultiset ≡ []
+unfolding bytes comesTrue wrong sameBytes tabulate broken firstBroken outFrom gather forest manyOf asOften matching.alike matching.sameTreesBy comparedBy
+other-multiset = refl
+
 pub unlike : wrong twins.unlike ≡ []
-unfolding bytes comesTrue wrong sameBytes tabulate broken firstBroken outFrom gather forest matching.alike matching.sameTreesBy comparedBy
+unfolding bytes comesTrue wrong sameBytes tabulate broken firstBroken outFrom gather forest manyOf asOften matching.alike matching.sameTreesBy comparedBy
 unlike = refl
 
 pub other-shape : wrong twins.otherShape ≡ []
-unfolding bytes comesTrue wrong sameBytes tabulate broken firstBroken outFrom gather forest matching.alike matching.sameTreesBy comparedBy
+unfolding bytes comesTrue wrong sameBytes tabulate broken firstBroken outFrom gather forest manyOf asOften matching.alike matching.sameTreesBy comparedBy
 other-shape = refl
 
 pub broken-rows : wrong twins.brokenRows ≡ []
-unfolding bytes comesTrue wrong sameBytes tabulate broken firstBroken outFrom gather forest matching.alike matching.sameTreesBy comparedBy
+unfolding bytes comesTrue wrong sameBytes tabulate broken firstBroken outFrom gather forest manyOf asOften matching.alike matching.sameTreesBy comparedBy
 broken-rows = refl
 
 pub bad-numbers : wrong twins.badNumbers ≡ []
-unfolding bytes comesTrue wrong sameBytes tabulate broken firstBroken outFrom gather forest matching.alike matching.sameTreesBy comparedBy
+unfolding bytes comesTrue wrong sameBytes tabulate broken firstBroken outFrom gather forest manyOf asOften matching.alike matching.sameTreesBy comparedBy
 bad-numbers = refl
 
 -- ---- the looser twin test: loose twins (1), none (0), and 14 as in the twin test
 
 pub loosely-alike : wrong loose-twins.looseTwinCases ≡ []
-unfolding bytes comesTrue wrong sameBytes tabulate broken firstBroken outFrom gather forest matching.alike matching.sameTreesBy comparedBy fine textOf
+unfolding bytes comesTrue wrong sameBytes tabulate broken firstBroken outFrom gather forest manyOf asOften matching.alike matching.sameTreesBy comparedBy fine textOf
 loosely-alike = refl
 
 pub loosely-unlike : wrong loose-twins.looseUnlikeCases ≡ []
-unfolding bytes comesTrue wrong sameBytes tabulate broken firstBroken outFrom gather forest matching.alike matching.sameTreesBy comparedBy fine textOf
+unfolding bytes comesTrue wrong sameBytes tabulate broken firstBroken outFrom gather forest manyOf asOften matching.alike matching.sameTreesBy comparedBy fine textOf
 loosely-unlike = refl
 
+pub loosely-any-case-or-order : wrong loose-twins.looseAnyCaseOrOrder ≡ []
+unfolding bytes comesTrue wrong sameBytes tabulate broken firstBroken outFrom gather forest manyOf asOften matching.alike matching.sameTreesBy comparedBy fine textOf
+loosely-any-case-or-order = refl
+
 pub loosely-refused : wrong loose-twins.looseRefusedCases ≡ []
-unfolding bytes comesTrue wrong sameBytes tabulate broken firstBroken outFrom gather forest matching.alike matching.sameTreesBy comparedBy fine textOf
+unfolding bytes comesTrue wrong sameBytes tabulate broken firstBroken outFrom gather forest manyOf asOften matching.alike matching.sameTreesBy comparedBy fine textOf
 loosely-refused = refl
 
 -- ---- the count of neighbours, and what it refuses
 
 pub neighbours : wrong twins.neighbourCases ≡ []
-unfolding bytes comesTrue wrong sameBytes tabulate broken firstBroken outFrom gather forest matching.alike matching.sameTreesBy repeats neighboursAnswer
+unfolding bytes comesTrue wrong sameBytes tabulate broken firstBroken outFrom gather forest manyOf asOften matching.alike matching.sameTreesBy repeats neighboursAnswer
 neighbours = refl
 
 pub neighbours-with-properties : wrong twins.neighboursWithProperties ≡ []
-unfolding bytes comesTrue wrong sameBytes tabulate broken firstBroken outFrom gather forest matching.alike matching.sameTreesBy repeats neighboursAnswer
+unfolding bytes comesTrue wrong sameBytes tabulate broken firstBroken outFrom gather forest manyOf asOften matching.alike matching.sameTreesBy repeats neighboursAnswer
 neighbours-with-properties = refl
 
 pub neighbours-refused : wrong twins.neighboursRefused ≡ []
-unfolding bytes comesTrue wrong sameBytes tabulate broken firstBroken outFrom gather forest matching.alike matching.sameTreesBy repeats neighboursAnswer
+unfolding bytes comesTrue wrong sameBytes tabulate broken firstBroken outFrom gather forest manyOf asOften matching.alike matching.sameTreesBy repeats neighboursAnswer
 neighbours-refused = refl
 
 -- ---- the parts of a reading by themselves: unfolding, views, keys and one parameter

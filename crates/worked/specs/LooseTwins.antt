@@ -6,6 +6,7 @@ use lib.ListN.{length}
 use Rattle.octets.specs.Literals.{bytes}
 use Rattle.tables.specs.Lent.{Lent, lent}
 use Rattle.worked.specs.Cases.{Case, case, compares, comparesLoosely}
+use Rattle.worked.specs.Twins.{twoHolders}
 
 -- two components `A` at the top, each with a property `K`: these are the values
 abbrev pub twoValues : List ℕ → List ℕ → Lent
@@ -171,4 +172,33 @@ looseRefusedCases =
     -- "A broken table rule gives 14 with the row; then a row number"
     ∷ case "a broken component before a number, loosely"
     (comparesLoosely (lent (bytes "A") (4294967295 ∷ 2 ∷ 0 ∷ 1 ∷ []) [] []) 5 4 (14 ∷ 0 ∷ 0 ∷ []))
+    ∷ []
+
+-- keys without case and parameters in any order, as in the twin test (document 02, request 5): 0, 0 and 1, or 0, 0 and 0
+abbrev pub looseAnyCaseOrOrder : List Case
+looseAnyCaseOrOrder =
+    -- "differs from twins in values alone": keys as there
+    case "a property key in another case, loosely"
+    (comparesLoosely (lent (bytes "AKvk")
+    (4294967295 ∷ 1 ∷ 0 ∷ 1 ∷ 4294967295 ∷ 1 ∷ 0 ∷ 1 ∷ [])
+    (0 ∷ 1 ∷ 1 ∷ 2 ∷ 1 ∷ 1 ∷ 3 ∷ 1 ∷ 2 ∷ 1 ∷ [])
+    [])
+    0 1 (0 ∷ 0 ∷ 1 ∷ []))
+    -- and parameters as there
+    ∷ case "two parameters in another order and case, loosely"
+    (comparesLoosely (twoHolders (bytes "AKvC1B2bc")
+    (0 ∷ 3 ∷ 1 ∷ 1 ∷ 4 ∷ 1 ∷ 0 ∷ 5 ∷ 1 ∷ 1 ∷ 6 ∷ 1 ∷ 1 ∷ 7 ∷ 1 ∷ 1 ∷ 6 ∷ 1 ∷ 1 ∷ 8 ∷ 1 ∷ 1 ∷ 4 ∷ 1 ∷ []))
+    0 1 (0 ∷ 0 ∷ 1 ∷ []))
+    -- values as texts, which have their case
+    ∷ case "a property value in another case, loosely"
+    (comparesLoosely (lent (bytes "AKxX")
+    (4294967295 ∷ 1 ∷ 0 ∷ 1 ∷ 4294967295 ∷ 1 ∷ 0 ∷ 1 ∷ [])
+    (0 ∷ 1 ∷ 1 ∷ 2 ∷ 1 ∷ 1 ∷ 1 ∷ 1 ∷ 3 ∷ 1 ∷ [])
+    [])
+    0 1 (0 ∷ 0 ∷ 0 ∷ []))
+    -- as many of each
+    ∷ case "one of each and one twice, loosely"
+    (comparesLoosely (twoHolders (bytes "AKvP12")
+    (0 ∷ 3 ∷ 1 ∷ 1 ∷ 4 ∷ 1 ∷ 0 ∷ 3 ∷ 1 ∷ 1 ∷ 5 ∷ 1 ∷ 1 ∷ 3 ∷ 1 ∷ 1 ∷ 5 ∷ 1 ∷ 1 ∷ 3 ∷ 1 ∷ 1 ∷ 5 ∷ 1 ∷ []))
+    0 1 (0 ∷ 0 ∷ 0 ∷ []))
     ∷ []

@@ -8,7 +8,8 @@ use borrow.Author.Tests.{not-true, not-false}
 use Rattle.tables.specs.Rows.{propertySize}
 use Rattle.tables.specs.Lent.{propertiesIn, parametersIn}
 use Rattle.tables.specs.Trees.{propertiesOf}
-use Rattle.matching.specs.Alike.{alike, sameParameters, samePropertyBy}
+use Rattle.comparing.specs.Pieces.{sameParameters}
+use Rattle.matching.specs.Alike.{alike, samePropertyBy}
 use Rattle.matching.specs.Tests.{valuesBy}
 use Rattle.matching.proofs.Properties.{Comparing, inside, starts, other-shorter, one-ended, first-differs, first-agrees}
 use Rattle.matching.proofs.same_properties.Statement.{statement}

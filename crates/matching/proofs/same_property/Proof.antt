@@ -9,7 +9,7 @@ use Rattle.octets.specs.Views.{viewed}
 use Rattle.octets.specs.declared.Span.{Span}
 use Rattle.tables.specs.Rows.{propertyAt}
 use Rattle.tables.specs.declared.PropertyRow.{PropertyRow}
-use Rattle.matching.specs.Alike.{sameKey}
+use Rattle.comparing.specs.Pieces.{sameKey}
 use Rattle.matching.specs.Tests.{valuesBy}
 use Rattle.matching.proofs.same_property.Statement.{statement}
 use Rattle.matching.proofs.same_property.Tie as tie

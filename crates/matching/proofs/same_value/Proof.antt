@@ -7,7 +7,7 @@ use borrow.Author.Needs.{needs}
 use Rattle.octets.specs.Views.{viewed}
 use Rattle.octets.specs.declared.Span.{Span}
 use Rattle.escapes.specs.Loose.{sameText}
-use Rattle.matching.specs.Alike.{sameValue}
+use Rattle.comparing.specs.Pieces.{sameValue}
 use Rattle.matching.proofs.same_value.Statement.{statement}
 use Rattle.matching.proofs.same_value.Tie as tie
 

@@ -5,7 +5,7 @@ use mathlib.Core.Path.{sym, ap, _∙_}
 use mathlib.Core.Bool.{Bool}
 use Rattle.octets.specs.Choice.{pick}
 use Rattle.tables.specs.Lent.{Lent, lent}
-use Rattle.matching.specs.Alike.{sameValue}
+use Rattle.comparing.specs.Pieces.{sameValue}
 use Rattle.twins.specs.Answers.{levels}
 use Rattle.twins.proofs.Pairs.{properties-differ}
 use Rattle.neighbours.proofs.compare.Statement.{statement}

@@ -4,7 +4,7 @@ use borrow.Author.Needs.{needs}
 use borrow.Author.Tests.{not-true, not-false}
 use Rattle.tables.specs.Lent.{Lent, lent, componentsIn, nameIn}
 use Rattle.walking.proofs.Rows.{row-there}
-use Rattle.matching.specs.Alike.{sameName}
+use Rattle.comparing.specs.Pieces.{sameName}
 use Rattle.matching.specs.Tests.{valuesBy}
 use Rattle.twins.proofs.Pairs.{names-are, names-differ, owns, heads-told}
 use Rattle.twins.proofs.same_head.Statement.{statement}

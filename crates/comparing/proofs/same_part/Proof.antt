@@ -1,7 +1,7 @@
--- `matching::same_part`: both parts are lent, and compared.
+-- `comparing::same_part`: both parts are lent, and compared.
 use borrow.Author.Needs.{needs}
-use Rattle.matching.proofs.same_part.Statement.{statement}
-use Rattle.matching.proofs.same_part.Tie as tie
+use Rattle.comparing.proofs.same_part.Statement.{statement}
+use Rattle.comparing.proofs.same_part.Tie as tie
 
 view-requires : tie.Need-view-requires
 view-requires c κs = search needs

@@ -1,10 +1,10 @@
--- `matching::same_parameter`: keys first, then whether there are values, then the values.
+-- `comparing::same_parameter`: keys first, then whether there are values, then the values.
 use mathlib.Core.Path.{_≡_, _∙_}
 use borrow.Author.Needs.{needs}
 use borrow.Author.Tests.{not-true, not-false}
-use Rattle.matching.proofs.Parameters.{keys, other-key, one-absent, other-absent, both-present}
-use Rattle.matching.proofs.same_parameter.Statement.{statement}
-use Rattle.matching.proofs.same_parameter.Tie as tie
+use Rattle.comparing.proofs.Pieces.{keys, other-key, one-absent, other-absent, both-present}
+use Rattle.comparing.proofs.same_parameter.Statement.{statement}
+use Rattle.comparing.proofs.same_parameter.Tie as tie
 
 abbrev start-of : tie.After-same-key → tie.Start
 start-of c = c .before .before .before .before

@@ -1,0 +1,6 @@
+pub mod Equivalences
+pub mod Multisets
+pub mod Orders
+pub mod Pieces
+pub mod Rows
+pub mod Examples

@@ -1,0 +1,4 @@
+pub mod Multisets
+pub mod Orders
+pub mod Pieces
+pub mod Runs
