@@ -52,6 +52,11 @@ of-parameters = of-multisets of-parameter
 
 -- ---- two parameters
 
+-- a test of two rows, as they are read
+pub as-read : (test : Parameter → Parameter → Bool) (text : List ℕ) {r : Bool} {p q p′ q′ : ParameterRow} → r ≡ test (parameterOf text p) (parameterOf text q)
+    → p ≡ p′ → q ≡ q′ → r ≡ test (parameterOf text p′) (parameterOf text q′)
+as-read test text e f g = cc
+
 module _ (text : List ℕ) (p q : ParameterRow) where
   abbrev pub keys : Bool
   keys = sameKey (viewed text (p .«key_start») (p .«key_len»)) (viewed text (q .«key_start») (q .«key_len»))

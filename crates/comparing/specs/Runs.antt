@@ -17,16 +17,16 @@ module _ (text table : List ℕ) where
   parameterIn row = parameterOf text (parameterAt table row)
 
   -- the parameters of `count` rows from `first` on
-  abbrev pub run : ℕ → ℕ → List Parameter
-  run first count = map (parameterOf text) (take count (drop first (parametersIn table)))
+  abbrev pub runIn : ℕ → ℕ → List Parameter
+  runIn first count = map (parameterOf text) (take count (drop first (parametersIn table)))
 
   -- how many of them are the same as that of a row
   abbrev pub manyIn : ℕ → ℕ → ℕ → ℕ
-  manyIn row first count = manyOf sameParameter (parameterIn row) (run first count)
+  manyIn row first count = manyOf sameParameter (parameterIn row) (runIn first count)
 
   -- whether two runs of `count` rows are the same multiset
   abbrev pub sameRuns : ℕ → ℕ → ℕ → Bool
-  sameRuns a b count = sameParameters (run a count) (run b count)
+  sameRuns a b count = sameParameters (runIn a count) (runIn b count)
 
   -- row i of the first run is like one before it there, or stands in both runs as often
   abbrev pub settled : ℕ → ℕ → ℕ → ℕ → Bool

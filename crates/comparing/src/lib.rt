@@ -1,4 +1,4 @@
-// Whether parts of a text, keys and parameters are the same, and whether two runs of parameter rows hold the same ones, in any order.
+// Whether parts of a text, keys and parameters are the same, and whether two runs of parameter rows hold the same ones, in any order, each row counted.
 ghost use mathlib.Core.Path.{_≡_};
 ghost use Prim.Native.Nat.{_+_, _-_, _/_, _≤_, _<_};
 ghost use lib.ListN.{length};
@@ -173,16 +173,4 @@ pub fn all_settled(text: &[u8], parameters: &[u32], a: usize, b: usize, count: u
         i += 1;
     }
     true
-}
-
-// The same, in linear time for rows in the same order: only what lies between a front and an end that agree is counted.
-pub fn same_runs(text: &[u8], parameters: &[u32], a: usize, b: usize, count: usize) -> bool
-    requires { ⌜ (a + count ≤ length (now parameters) / parameterSize) × (b + count ≤ length (now parameters) / parameterSize) ⌝ }
-    ensures { λ r. ⌜ r ≡ sameRuns (now (text .entry)) (now (parameters .entry)) a b count ⌝ }
-{
-    let front = same_front(text, parameters, a, b, count);
-    let one = a + front;
-    let other = b + front;
-    let left = without_back(text, parameters, one, other, count - front);
-    all_settled(text, parameters, one, other, left)
 }

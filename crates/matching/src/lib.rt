@@ -71,7 +71,7 @@ pub fn same_parameters(text: &[u8], parameters: &[u32], a: Held, b: Held) -> boo
     if count == 0 {
         return true;
     }
-    comparing::same_runs(text, parameters, a.first, b.first, count)
+    sifting::same_runs(text, parameters, a.first, b.first, count)
 }
 
 // Whether two properties are the same: key, value and parameters.

@@ -355,7 +355,8 @@ pub fn same_bytes(a: &[u8], b: &[u8]) -> bool
     true
 }
 
-fn lower(b: u8) -> u8
+// A letter in lower case, and any other byte as it is.
+pub fn lower(b: u8) -> u8
     ensures { λ r. ⌜ r ≡ lowered b ⌝ }
 {
     if b < b'A' {

@@ -142,9 +142,9 @@ pub refused-strictly : wrong folding.refusedStrictly ≡ []
 unfolding bytes comesTrue wrong turning sameBytes run pieces.behindBreaks unitsFrom soundLen foldedUnits cuts
 refused-strictly = refl
 
-pub names : wrong folding.names ≡ []
+pub with-accents : wrong folding.withAccents ≡ []
 unfolding bytes comesTrue wrong turning sameBytes run pieces.behindBreaks unitsFrom soundLen foldedUnits cuts
-names = refl
+with-accents = refl
 
 pub across-the-cut : wrong folding.acrossTheCut ≡ []
 unfolding bytes comesTrue wrong turning sameBytes run pieces.behindBreaks unitsFrom soundLen foldedUnits cuts

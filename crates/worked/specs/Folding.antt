@@ -70,8 +70,8 @@ refusedStrictly =
     ∷ []
 
 -- names with accents, Done: "Let the strict fold take UTF-8 by RFC 3629"
-abbrev pub names : List Case
-names =
+abbrev pub withAccents : List Case
+withAccents =
     -- S, U+00E3 and o
     case "a name with a tilde"
     (foldsStrictly (bytes "S" ++ 195 ∷ 163 ∷ bytes "o") (bytes₀ 6) (0 ∷ 0 ∷ 4 ∷ []) (bytes "S" ++ 195 ∷ 163 ∷ (bytes "o" ++ 174 ∷ 175 ∷ [])))

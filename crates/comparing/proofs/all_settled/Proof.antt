@@ -1,18 +1,18 @@
 -- `comparing::all_settled`: wherever the loop stands, the rows up to there stand in both runs as often.
-use Prim.Native.Nat.{_+_, _-_, _≤_}
-use mathlib.Core.Path.{_≡_, sym, ap, _∙_}
+use Prim.Native.Nat.{_-_, _≤_}
+use mathlib.Core.Path.{_≡_, sym, _∙_}
 use mathlib.Core.Bool.{true}
 use native.Mathlib.Omega.{arith}
 use borrow.Author.Tests.{not-true, not-false}
 use Rattle.comparing.specs.Multisets.{asOften}
 use Rattle.comparing.specs.Pieces.{sameParameter}
-use Rattle.comparing.specs.Runs.{run}
+use Rattle.comparing.specs.Runs.{runIn}
 use Rattle.comparing.proofs.Rows.{settle-none, settle-on, not-settled, all-told}
 use Rattle.comparing.proofs.all_settled.Statement.{statement}
 use Rattle.comparing.proofs.all_settled.Tie as tie
 
 abbrev Inv-loop : tie.InvT-loop
-Inv-loop text table a b count i₀ i = (i ≤ count) × (asOften sameParameter (run text table a count) (run text table b count) (run text table a i) ≡ true)
+Inv-loop text table a b count i₀ i = (i ≤ count) × (asOften sameParameter (runIn text table a count) (runIn text table b count) (runIn text table a i) ≡ true)
 
 abbrev μ-loop : tie.MeasureT-loop
 μ-loop text table a b count i₀ i = count - i

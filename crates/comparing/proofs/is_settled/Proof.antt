@@ -1,10 +1,6 @@
 -- `comparing::is_settled`: where no row before it is the same, the rows from it on are all that can be counted in the first run.
-use Prim.Native.Nat.{_+_, _-_}
-use mathlib.Core.Path.{_≡_, sym, ap, _∙_}
+use mathlib.Core.Path.{sym, _∙_}
 use native.Mathlib.Omega.{arith}
-use borrow.Author.Needs.{needs}
-use borrow.Author.Tests.{ltb-false}
-use Rattle.comparing.specs.Runs.{manyIn}
 use Rattle.comparing.proofs.Rows.{settled-found, settled-counted}
 use Rattle.comparing.proofs.is_settled.Statement.{statement}
 use Rattle.comparing.proofs.is_settled.Tie as tie

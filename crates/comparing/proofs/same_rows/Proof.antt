@@ -1,19 +1,9 @@
 -- `comparing::same_rows`: both rows are read, and compared.
-use Prim.Native.Nat.{ℕ}
-use mathlib.Core.Path.{_≡_}
-use mathlib.Core.Bool.{Bool}
-use mathlib.Core.List.{List}
 use borrow.Author.Needs.{needs}
-use Rattle.tables.specs.Trees.{parameterOf}
-use Rattle.tables.specs.declared.ParameterRow.{ParameterRow}
 use Rattle.comparing.specs.Pieces.{sameParameter}
+use Rattle.comparing.proofs.Pieces.{as-read}
 use Rattle.comparing.proofs.same_rows.Statement.{statement}
 use Rattle.comparing.proofs.same_rows.Tie as tie
-
--- the rows as they are read
-read : (text : List ℕ) {r : Bool} {p q p′ q′ : ParameterRow} → r ≡ sameParameter (parameterOf text p) (parameterOf text q) → p ≡ p′ → q ≡ q′
-    → r ≡ sameParameter (parameterOf text p′) (parameterOf text q′)
-read text e f g = cc
 
 parameter-at-requires : tie.Need-parameter-at-requires
 parameter-at-requires c κs = search needs
@@ -27,7 +17,7 @@ same-parameter-requires c κs = search needs
 returns : tie.Need-returns
 returns c =
     let q = c .before in
-    read (q .before .before .before .before .args .text .now) (c .same-parameter .ensures) (q .before .parameter-at .ensures) (q .parameter-at2 .ensures)
+    as-read sameParameter (q .before .before .before .before .args .text .now) (c .same-parameter .ensures) (q .before .parameter-at .ensures) (q .parameter-at2 .ensures)
 
 pub same-rows-spec : {M : Type 1} → statement M
 same-rows-spec = tie.close (tie.spec parameter-at-requires parameter-at-requires-2 same-parameter-requires returns)

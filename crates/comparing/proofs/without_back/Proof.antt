@@ -1,6 +1,6 @@
 -- `comparing::without_back`: wherever the loop stands, the runs up to there compare as the whole of them.
-use Prim.Native.Nat.{_+_, _-_, _≤_}
-use mathlib.Core.Path.{_≡_, refl, sym, ap, _∙_}
+use Prim.Native.Nat.{_≤_}
+use mathlib.Core.Path.{_≡_, refl, sym, _∙_}
 use native.Mathlib.Omega.{arith}
 use borrow.Author.Tests.{not-false}
 use Rattle.comparing.specs.Runs.{sameRuns}
