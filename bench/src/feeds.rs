@@ -91,6 +91,7 @@ pub fn feed(kind: &str, bytes: usize) -> String {
         "accented" => one_line(&ACCENTED.words.join(" "), bytes),
         "wide" => one_line(&WIDE.join(" "), bytes),
         "hostile" => hostile(bytes),
+        "deep" => deep(bytes),
         "doubled" => doubled(bytes),
         "reordered" => reordered(bytes),
         "crowd" => crowd(bytes),
@@ -223,6 +224,12 @@ fn nested(bytes: usize) -> String {
     wrapped("VCALENDAR", bytes, "\r\n", |n| {
         format!("BEGIN:VEVENT\r\nUID:{n}\r\nBEGIN:VALARM\r\nACTION:AUDIO\r\nEND:VALARM\r\nEND:VEVENT\r\n")
     })
+}
+
+/// Components inside each other as deep as may be, over and over: with the one around them there are 64 levels.
+fn deep(bytes: usize) -> String {
+    let nest = format!("{}UID:7\r\n{}", "BEGIN:A\r\n".repeat(63), "END:A\r\n".repeat(63));
+    wrapped("VCALENDAR", bytes, "\r\n", |_| nest.clone())
 }
 
 /// Tens of thousands of small components, each followed by a property of its parent: a search of all properties for each would take

@@ -173,7 +173,7 @@ const WRITE: Row = Row {
 /// every other pair is equal. Ours checks the tables first, once.
 const TWINS: Row = Row {
     name: "twins",
-    feeds: &[("calendar", 1 << 20), ("calendar", 1 << 19), ("nested", 1 << 20), ("doubled", 1 << 20)],
+    feeds: &[("calendar", 1 << 20), ("calendar", 1 << 19), ("nested", 1 << 20), ("doubled", 1 << 20), ("deep", 1 << 20)],
     parts: |feed| vec![feed],
     ours: |parts, lent, clock| {
         let told = ours::read(parts[0].as_bytes(), lent);
