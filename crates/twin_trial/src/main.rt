@@ -146,7 +146,7 @@ fn ask_long(case: &[u8], bytes: &[u8]) {
 }
 
 // How many parameters a property of a crowd has: more than the rows of one shelf (crates/sifting).
-const CROWD: u32 = 5000;
+const CROWD: u32 = 2000;
 
 // A parameter of the property, told from others by how long its value is.
 fn as_long(property: u32, length: u32) -> ParameterRow {
@@ -171,7 +171,7 @@ fn lay_crowd(parameters: &mut [u32]) {
 }
 
 // Asks of two components with such properties. The third field has a row, and how long its value is instead.
-fn ask_lent_crowd(case: &[u8], change: &[u8], text: &[u8; 5000], parameters: &mut [u32; 60_000]) {
+fn ask_lent_crowd(case: &[u8], change: &[u8], text: &[u8; 2000], parameters: &mut [u32; 24_000]) {
     lay_crowd(parameters);
     let mut changed = [0u32; 2];
     lay_words(change, &mut changed);
@@ -182,8 +182,8 @@ fn ask_lent_crowd(case: &[u8], change: &[u8], text: &[u8; 5000], parameters: &mu
 }
 
 fn ask_crowd(case: &[u8], change: &[u8]) {
-    let text = [b'P'; 5000];
-    let mut parameters = [0u32; 60_000];
+    let text = [b'P'; 2000];
+    let mut parameters = [0u32; 24_000];
     ask_lent_crowd(case, change, &text, &mut parameters);
 }
 

@@ -11,7 +11,7 @@ abbrev Inv-loop : tie.InvT-loop
 Inv-loop parameters₀ n₀ parameters n = length parameters ≡ length parameters₀
 
 abbrev μ-loop : tie.MeasureT-loop
-μ-loop parameters₀ n₀ parameters n = 5000 - n
+μ-loop parameters₀ n₀ parameters n = 2000 - n
 
 loop-holds : tie.Need-loop-holds Inv-loop μ-loop
 loop-holds c = search needs
