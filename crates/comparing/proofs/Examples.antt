@@ -1,14 +1,16 @@
--- Worked cases of keys, parameters and multisets, by hand. Assumes nothing.
+-- Worked cases of keys, parameters, multisets and runs, by hand. Assumes nothing.
 use mathlib.Core.Path.{_≡_, refl}
 use mathlib.Core.Bool.{true, false}
-use mathlib.Core.List.{List, [], _∷_, map}
+use mathlib.Core.List.{List, [], _∷_, _++_, map}
 use Prim.Native.Nat.{ℕ}
 use lib.Dec.{eqb}
 use Rattle.octets.specs.Words.{sameBytes}
 use Rattle.octets.specs.Literals.{bytes}
+use Rattle.tables.specs.Rows.{tabulate}
 use Rattle.tables.specs.Trees.{Parameter, absent, present}
 use Rattle.comparing.specs.Multisets.{manyOf, asOften, sameMultiset}
 use Rattle.comparing.specs.Pieces.{sameKey, sameParameter}
+use Rattle.comparing.specs.Runs.{settled, agreeingFront, withoutAgreeingBack}
 
 -- letters in any case; no other bytes, though they are 32 apart as letters are; and no longer key
 keys : sameKey (bytes "dtstart") (bytes "DTSTART") ∷ sameKey (bytes "Az") (bytes "aZ") ∷ sameKey (bytes "@[") (bytes "`{") ∷ sameKey (bytes "K") (bytes "kk") ∷ []
@@ -42,3 +44,18 @@ others : sameMultiset eqb (1 ∷ 1 ∷ []) (1 ∷ []) ∷ sameMultiset eqb (1 �
     ≡ false ∷ false ∷ false ∷ false ∷ false ∷ false ∷ true ∷ []
 unfolding manyOf asOften
 others = refl
+
+-- rows with the keys x, x, y and x, y, y: the second run has no row for the second x of the first; the first rows agree, and so do the last
+abbrev x-row : List ℕ
+x-row = 0 ∷ 0 ∷ 1 ∷ 0 ∷ 0 ∷ 0 ∷ []
+
+abbrev y-row : List ℕ
+y-row = 0 ∷ 1 ∷ 1 ∷ 0 ∷ 0 ∷ 0 ∷ []
+
+abbrev table : List ℕ
+table = x-row ++ (x-row ++ (y-row ++ (x-row ++ (y-row ++ y-row))))
+
+runs : (map (settled (bytes "xy") table 0 3 3) (0 ∷ 1 ∷ 2 ∷ []) ≡ true ∷ false ∷ true ∷ [])
+    × (agreeingFront (bytes "xy") table 0 3 3 ≡ 1) × (withoutAgreeingBack (bytes "xy") table 0 3 3 ≡ 2)
+unfolding bytes sameBytes tabulate manyOf agreeingFront withoutAgreeingBack
+runs = (refl, refl, refl)

@@ -3,4 +3,5 @@ pub mod Multisets
 pub mod Orders
 pub mod Pieces
 pub mod Rows
+pub mod Ends
 pub mod Examples

@@ -1,6 +1,6 @@
 -- Laws of lists that are the same multiset: what the test means, that it is an equivalence, and what can be left out of both. Assumes nothing.
 use mathlib.Core.Path.{_≡_, refl, sym, ap, _∙_}
-use mathlib.Core.Bool.{Bool, true, false, _&&_, and-assoc}
+use mathlib.Core.Bool.{Bool, true, false}
 use mathlib.Core.List.{List, [], _∷_, _++_}
 use mathlib.Core.Logic.{_↔_}
 use Prim.Native.Nat.{ℕ, zero, suc, _+_, _≤_, _<_, zero-le}
@@ -19,14 +19,6 @@ pub many-append : {A : Type 0} (same : A → A → Bool) (z : A) (xs ys : List A
 unfolding manyOf
 many-append same z [] ys = omega arith
 many-append same z (x ∷ xs) ys = omega (arith, many-append same z xs ys)
-
--- each of two lists in turn
-pub often-append : {A : Type 0} (same : A → A → Bool) (xs ys zs ws : List A)
-    → asOften same xs ys (zs ++ ws) ≡ asOften same xs ys zs && asOften same xs ys ws
-unfolding asOften
-often-append same xs ys [] ws = refl
-often-append same xs ys (z ∷ zs) ws =
-    rw (often-append same xs ys zs ws) (sym (and-assoc (eqb (manyOf same z xs) (manyOf same z ys)) (asOften same xs ys zs) (asOften same xs ys ws)))
 
 -- ---- what the test means
 
@@ -50,13 +42,13 @@ module _ {A : Type 0} {same : A → A → Bool} (s : Equivalence same) where
   as-same x y e z = together (same z x) (same z y) (λ f. s .joined z x y f e) (λ f. s .joined z y x f (s .turned x y e))
 
   -- an element counts as those that are the same as it
-  pub many-same : (x y : A) → same x y ≡ true → (zs : List A) → manyOf same x zs ≡ manyOf same y zs
+  many-same : (x y : A) → same x y ≡ true → (zs : List A) → manyOf same x zs ≡ manyOf same y zs
   unfolding manyOf
   many-same x y e [] = refl
   many-same x y e (z ∷ zs) = rw (same-as x y e z, many-same x y e zs)
 
   -- an element that is found among some that each stand in both as often stands in both as often itself
-  pub found-often : (z : A) (xs ys zs : List A) → asOften same xs ys zs ≡ true → 0 < manyOf same z zs → manyOf same z xs ≡ manyOf same z ys
+  found-often : (z : A) (xs ys zs : List A) → asOften same xs ys zs ≡ true → 0 < manyOf same z zs → manyOf same z xs ≡ manyOf same z ys
   unfolding manyOf asOften
   found-often z xs ys [] e h = absurd (omega (arith, h))
   found-often z xs ys (w ∷ ws) e h =
@@ -137,7 +129,7 @@ module _ {A : Type 0} {same : A → A → Bool} (s : Equivalence same) where
       last : (z : A) → manyOf same z (x ∷ []) ≡ manyOf same z (y ∷ [])
       last z = rw (as-same x y e z)
 
-  -- ---- how long they are
+  -- ---- one within another, and how long they are
 
   -- a list without the first that is the same as x
   unfoldable without : A → List A → List A
@@ -185,8 +177,22 @@ module _ {A : Type 0} {same : A → A → Bool} (s : Equivalence same) where
   within-length (x ∷ xs) ys h =
       omega (arith, within-length xs (without x ys) (rest-within x xs ys h), without-length x ys (stands x xs ys h))
 
+  -- a list within another stays so with x behind it, if the other has more of x
+  pub within-more : (x : A) (xs ys : List A) → ((z : A) → manyOf same z xs ≤ manyOf same z ys) → manyOf same x xs < manyOf same x ys
+      → (z : A) → manyOf same z (xs ++ x ∷ []) ≤ manyOf same z ys
+  unfolding manyOf
+  within-more x xs ys h l z = go (same z x) refl
+    where
+      go : (t : Bool) → same z x ≡ t → manyOf same z (xs ++ x ∷ []) ≤ manyOf same z ys
+      go true e =
+          let one : pick {A = ℕ} (same z x) 1 0 ≡ 1 = rw e in
+          omega (arith, many-append same z xs (x ∷ []), one, many-same z x e xs, many-same z x e ys, l)
+      go false e =
+          let none : pick {A = ℕ} (same z x) 1 0 ≡ 0 = rw e in
+          omega (arith, many-append same z xs (x ∷ []), none, h z)
+
   -- a list within another that is as long is the same multiset
-  within-all : (xs ys : List A) → length xs ≡ length ys → ((z : A) → manyOf same z xs ≤ manyOf same z ys)
+  pub within-all : (xs ys : List A) → length xs ≡ length ys → ((z : A) → manyOf same z xs ≤ manyOf same z ys)
       → (z : A) → manyOf same z xs ≡ manyOf same z ys
   unfolding manyOf
   within-all [] [] e h z = refl
@@ -207,11 +213,3 @@ module _ {A : Type 0} {same : A → A → Bool} (s : Equivalence same) where
 
   pub other-length : (xs ys : List A) → (length xs ≡ length ys → ⊥) → sameMultiset same xs ys ≡ false
   other-length xs ys h = fails (sameMultiset same xs ys) (λ e. h (as-long xs ys e))
-
-  -- of lists of one length it is enough that each of the first stands in both as often
-  pub one-way : (xs ys : List A) → length xs ≡ length ys → asOften same xs ys xs ≡ true → sameMultiset same xs ys ≡ true
-  one-way xs ys e f = of-counts xs ys (within-all xs ys e (λ z. go z (manyOf same z xs) refl))
-    where
-      go : (z : A) (m : ℕ) → manyOf same z xs ≡ m → manyOf same z xs ≤ manyOf same z ys
-      go z zero g = omega (arith, g)
-      go z (suc m) g = omega (arith, found-often z xs ys xs f (omega (arith, g)))

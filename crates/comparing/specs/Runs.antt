@@ -1,10 +1,11 @@
 -- Serves inner contracts only. Parameter rows that follow each other in a table, as parameters, and two such runs compared.
 -- Assumes nothing.
-use Prim.Native.Nat.{ℕ, _+_}
-use mathlib.Core.Bool.{Bool, _||_}
+use Prim.Native.Nat.{ℕ, zero, suc, _+_, _≤_}
+use mathlib.Core.Bool.{Bool}
 use mathlib.Core.List.{List, map}
 use lib.ListN.{take, drop}
-use lib.Dec.{eqb, ltb}
+use lib.Dec.{ltb}
+use Rattle.octets.specs.Choice.{pick}
 use Rattle.tables.specs.Lent.{parametersIn}
 use Rattle.tables.specs.Rows.{parameterAt}
 use Rattle.tables.specs.Trees.{Parameter, parameterOf}
@@ -28,6 +29,20 @@ module _ (text table : List ℕ) where
   abbrev pub sameRuns : ℕ → ℕ → ℕ → Bool
   sameRuns a b count = sameParameters (runIn a count) (runIn b count)
 
-  -- row i of the first run is like one before it there, or stands in both runs as often
+  -- the second run has a row for row i of the first: more that are like it than stand before it in the first
   abbrev pub settled : ℕ → ℕ → ℕ → ℕ → Bool
-  settled a b count i = ltb 0 (manyIn (a + i) a i) || eqb (manyIn (a + i) a count) (manyIn (a + i) b count)
+  settled a b count i = ltb (manyIn (a + i) a i) (manyIn (a + i) b count)
+
+  -- no parameter stands oftener among the first i rows of the first run than in all of the second
+  abbrev pub SettledTo : ℕ → ℕ → ℕ → ℕ → Type 0
+  SettledTo a b count i = (z : Parameter) → manyOf sameParameter z (runIn a i) ≤ manyOf sameParameter z (runIn b count)
+
+  -- how many rows at the front of two runs are the same one by one
+  unfoldable pub agreeingFront : ℕ → ℕ → ℕ → ℕ
+  agreeingFront a b zero = 0
+  agreeingFront a b (suc n) = pick (sameParameter (parameterIn a) (parameterIn b)) (suc (agreeingFront (a + 1) (b + 1) n)) 0
+
+  -- how many rows are left of them without those at the end that are
+  unfoldable pub withoutAgreeingBack : ℕ → ℕ → ℕ → ℕ
+  withoutAgreeingBack a b zero = 0
+  withoutAgreeingBack a b (suc n) = pick (sameParameter (parameterIn (a + n)) (parameterIn (b + n))) (withoutAgreeingBack a b n) (suc n)

@@ -1,6 +1,6 @@
 // Whether parts of a text, keys and parameters are the same, and whether two runs of parameter rows hold the same ones, in any order, each row counted.
 ghost use mathlib.Core.Path.{_≡_};
-ghost use Prim.Native.Nat.{_+_, _-_, _/_, _≤_, _<_};
+ghost use Prim.Native.Nat.{_+_, _/_, _≤_, _<_};
 ghost use lib.ListN.{length};
 ghost use lib.Dec.{ltb};
 ghost use Rattle.octets.specs.Views.{viewed};
@@ -8,7 +8,7 @@ ghost use Rattle.octets.specs.Words.{sameBytes};
 ghost use Rattle.tables.specs.Rows.{parameterSize};
 ghost use Rattle.tables.specs.Trees.{parameterOf};
 ghost use Rattle.comparing.specs.Pieces.{sameKey, sameParameter};
-ghost use Rattle.comparing.specs.Runs.{parameterIn, manyIn, sameRuns, settled};
+ghost use Rattle.comparing.specs.Runs.{parameterIn, manyIn, sameRuns, settled, agreeingFront, withoutAgreeingBack};
 use octets::Span;
 use tables::ParameterRow;
 
@@ -79,10 +79,9 @@ pub fn same_rows(text: &[u8], parameters: &[u32], p: usize, q: usize) -> bool
 }
 
 // How many rows at the front of two runs are the same one by one: the runs are as alike as what is behind them.
-pub fn same_front(text: &[u8], parameters: &[u32], a: usize, b: usize, count: usize) -> usize
+pub fn agreeing_front(text: &[u8], parameters: &[u32], a: usize, b: usize, count: usize) -> usize
     requires { ⌜ (a + count ≤ length (now parameters) / parameterSize) × (b + count ≤ length (now parameters) / parameterSize) ⌝ }
-    ensures { λ r. ⌜ r ≤ count ⌝ }
-    ensures { λ r. ⌜ sameRuns (now (text .entry)) (now (parameters .entry)) (a + r) (b + r) (count - r) ≡ sameRuns (now (text .entry)) (now (parameters .entry)) a b count ⌝ }
+    ensures { λ r. ⌜ r ≡ agreeingFront (now (text .entry)) (now (parameters .entry)) a b count ⌝ }
 {
     let mut i: usize = 0;
     while i < count {
@@ -95,10 +94,15 @@ pub fn same_front(text: &[u8], parameters: &[u32], a: usize, b: usize, count: us
 }
 
 // How many rows are left of two runs without those at the end that are the same one by one.
-pub fn without_back(text: &[u8], parameters: &[u32], a: usize, b: usize, count: usize) -> usize
+pub fn without_agreeing_back(
+    text: &[u8],
+    parameters: &[u32],
+    a: usize,
+    b: usize,
+    count: usize,
+) -> usize
     requires { ⌜ (a + count ≤ length (now parameters) / parameterSize) × (b + count ≤ length (now parameters) / parameterSize) ⌝ }
-    ensures { λ r. ⌜ r ≤ count ⌝ }
-    ensures { λ r. ⌜ sameRuns (now (text .entry)) (now (parameters .entry)) a b r ≡ sameRuns (now (text .entry)) (now (parameters .entry)) a b count ⌝ }
+    ensures { λ r. ⌜ r ≡ withoutAgreeingBack (now (text .entry)) (now (parameters .entry)) a b count ⌝ }
 {
     let mut left = count;
     while 0 < left {
@@ -108,21 +112,6 @@ pub fn without_back(text: &[u8], parameters: &[u32], a: usize, b: usize, count: 
         left -= 1;
     }
     left
-}
-
-// Whether a run holds a parameter that is the same as that of the row.
-fn holds(text: &[u8], parameters: &[u32], row: usize, first: usize, count: usize) -> bool
-    requires { ⌜ (row < length (now parameters) / parameterSize) × (first + count ≤ length (now parameters) / parameterSize) ⌝ }
-    ensures { λ r. ⌜ r ≡ ltb 0 (manyIn (now (text .entry)) (now (parameters .entry)) row first count) ⌝ }
-{
-    let mut i: usize = 0;
-    while i < count {
-        if same_rows(text, parameters, row, first + i) {
-            return true;
-        }
-        i += 1;
-    }
-    false
 }
 
 // How many of a run are the same as that of the row.
@@ -141,7 +130,34 @@ fn many_in(text: &[u8], parameters: &[u32], row: usize, first: usize, count: usi
     found
 }
 
-// Whether row i of the first run stands in both as often; one that is like a row before it was asked about there.
+// Whether more rows of a run than so many are the same as the row. It counts down and stops at the first row beyond them.
+fn more_than(
+    text: &[u8],
+    parameters: &[u32],
+    row: usize,
+    first: usize,
+    count: usize,
+    many: usize,
+) -> bool
+    requires { ⌜ (row < length (now parameters) / parameterSize) × (first + count ≤ length (now parameters) / parameterSize) ⌝ }
+    ensures { λ r. ⌜ r ≡ ltb many (manyIn (now (text .entry)) (now (parameters .entry)) row first count) ⌝ }
+{
+    let mut left = many;
+    let mut i: usize = 0;
+    while i < count {
+        if same_rows(text, parameters, row, first + i) {
+            if left == 0 {
+                return true;
+            }
+            left -= 1;
+        }
+        i += 1;
+    }
+    false
+}
+
+// Whether the second run has a row for row i of the first: more that are like it than stand before it in the first, as each of those needs one of
+// its own.
 pub fn is_settled(
     text: &[u8],
     parameters: &[u32],
@@ -153,14 +169,11 @@ pub fn is_settled(
     requires { ⌜ (a + count ≤ length (now parameters) / parameterSize) × (b + count ≤ length (now parameters) / parameterSize) × (i < count) ⌝ }
     ensures { λ r. ⌜ r ≡ settled (now (text .entry)) (now (parameters .entry)) a b count i ⌝ }
 {
-    let row = a + i;
-    if holds(text, parameters, row, a, i) {
-        return true;
-    }
-    many_in(text, parameters, row, row, count - i) == many_in(text, parameters, row, b, count)
+    let before = many_in(text, parameters, a + i, a, i);
+    more_than(text, parameters, a + i, b, count, before)
 }
 
-// Whether two runs of equally many rows hold the same parameters: each of the first stands in both as often, so the second has no others.
+// Whether two runs of equally many rows hold the same parameters: each row of the first has its own in the second, so the second has no others.
 pub fn all_settled(text: &[u8], parameters: &[u32], a: usize, b: usize, count: usize) -> bool
     requires { ⌜ (a + count ≤ length (now parameters) / parameterSize) × (b + count ≤ length (now parameters) / parameterSize) ⌝ }
     ensures { λ r. ⌜ r ≡ sameRuns (now (text .entry)) (now (parameters .entry)) a b count ⌝ }

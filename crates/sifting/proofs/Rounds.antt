@@ -1,27 +1,22 @@
 -- Two runs of parameter rows in one round: each row counted for the place on which it lands, taken off again, and what that says of the runs.
 -- Assumes nothing.
-use mathlib.Core.Path.{_≡_, refl, ap}
-use mathlib.Core.Bool.{Bool, true, false, _||_}
+use mathlib.Core.Path.{_≡_, ap}
+use mathlib.Core.Bool.{true, false}
 use mathlib.Core.List.{List, []}
 use Prim.Native.Nat.{ℕ, _+_, _-_, _/_, _≤_, _<_}
 use native.Mathlib.Omega.{arith}
 use lib.ListN.{length, getD, set}
-use lib.Dec.{eqb, ltb}
-use borrow.Author.Tests.{eq-eqb}
+use borrow.Author.Tests.{lt-ltb}
 use Rattle.tables.specs.Rows.{parameterSize}
 use Rattle.tables.specs.Trees.{Parameter}
 use Rattle.comparing.specs.Runs.{parameterIn, runIn, manyIn, sameRuns, settled}
 use Rattle.comparing.proofs.Pieces.{of-parameter}
-use Rattle.comparing.proofs.Rows.{run-more, run-then, length-run}
+use Rattle.comparing.proofs.Rows.{run-more, run-then, length-run, ranked}
 use Rattle.sifting.specs.Shelves.{shelfSize, landing}
 use Rattle.sifting.specs.Tallies.{Empty, Left, landed}
 use Rattle.sifting.specs.Rounds.{Counted, Reduced, Level}
 use Rattle.sifting.proofs.Shelves.{lands-same, lands-apart}
 use Rattle.sifting.proofs.Tallies.{landed-append, landed-few, none-landed, held-up, held-down, held-past, held-pass, more-land, uneven, even-many}
-
-or-true : (a b : Bool) → b ≡ true → a || b ≡ true
-or-true true b e = refl
-or-true false b e = e
 
 module _ (text table shelf : List ℕ) (n : ℕ) where
   abbrev lands : Parameter → ℕ
@@ -99,10 +94,13 @@ module _ (text table shelf : List ℕ) (n : ℕ) where
       pub none-left : Empty tally → Level text table shelf n a b count
       none-left e j k = omega (arith, e j k, h j k)
 
-    -- a row that lands stands in both as often
-    pub lands-settled : Level text table shelf n a b count → (i : ℕ) {p : ℕ} → p ≡ lands (row (a + i)) → p < shelfSize
-        → settled text table a b count i ≡ true
-    lands-settled h i e l =
-        or-true (ltb 0 (manyIn text table (a + i) a i)) (eqb (manyIn text table (a + i) a count) (manyIn text table (a + i) b count))
-        (eq-eqb (manyIn text table (a + i) a count) (manyIn text table (a + i) b count)
-        (even-many lands of-parameter (lands-same text table shelf n) (lands-apart text table shelf n) (runIn text table a count) (runIn text table b count) h (row (a + i)) (rw (← e) l)))
+    -- a row that lands stands in both as often, so in the second oftener than before itself in the first
+    pub lands-settled : Level text table shelf n a b count → (i : ℕ) → a + i < length table / parameterSize → i < count
+        → {p : ℕ} → p ≡ lands (row (a + i)) → p < shelfSize → settled text table a b count i ≡ true
+    lands-settled h i l k e f =
+        lt-ltb (manyIn text table (a + i) a i) (manyIn text table (a + i) b count) (omega (arith, ranked text table a count i k l, even))
+      where
+        even : manyIn text table (a + i) a count ≡ manyIn text table (a + i) b count
+        even =
+            even-many lands of-parameter (lands-same text table shelf n) (lands-apart text table shelf n)
+            (runIn text table a count) (runIn text table b count) h (row (a + i)) (rw (← e) f)

@@ -6,11 +6,11 @@ ghost use lib.ListN.{length};
 ghost use Rattle.octets.specs.Views.{viewed};
 ghost use Rattle.tables.specs.Rows.{parameterSize};
 ghost use Rattle.tables.specs.Trees.{parameterOf};
-ghost use Rattle.comparing.specs.Runs.{parameterIn, sameRuns};
+ghost use Rattle.comparing.specs.Runs.{parameterIn, sameRuns, SettledTo};
 ghost use Rattle.sifting.specs.Orders.{letterOf, orderBy, precedes};
 ghost use Rattle.sifting.specs.Shelves.{shelfSize, Stocked, Moved, lookedFor, landing};
 ghost use Rattle.sifting.specs.Tallies.{Empty, Left};
-ghost use Rattle.sifting.specs.Rounds.{SettledTo, Counted, Reduced, Level};
+ghost use Rattle.sifting.specs.Rounds.{Counted, Reduced, Level};
 use tables::ParameterRow;
 
 // How many rows a shelf holds; as the place of a row it says that the row has none.
@@ -294,8 +294,8 @@ fn are_even(
     is_empty(tally)
 }
 
-// Whether the rows of the first run up to `next` stand in both as often, where those up to `from` do. A row that lands does. One that does not is asked
-// about by itself: that is slow, but no row comes to it that was put on the shelf.
+// Whether no parameter stands oftener among the rows of the first run up to `next` than in the second, where none does among those up to `from`. A row
+// that lands stands in both as often. One that does not is asked about by itself: that is slow, but no row comes to it that was put on the shelf.
 fn settle(
     text: &[u8],
     parameters: &[u32],
@@ -353,10 +353,10 @@ pub fn same_runs(text: &[u8], parameters: &[u32], a: usize, b: usize, count: usi
     requires { ⌜ (a + count ≤ length (now parameters) / parameterSize) × (b + count ≤ length (now parameters) / parameterSize) ⌝ }
     ensures { λ r. ⌜ r ≡ sameRuns (now (text .entry)) (now (parameters .entry)) a b count ⌝ }
 {
-    let front = comparing::same_front(text, parameters, a, b, count);
+    let front = comparing::agreeing_front(text, parameters, a, b, count);
     let one = a + front;
     let other = b + front;
-    let left = comparing::without_back(text, parameters, one, other, count - front);
+    let left = comparing::without_agreeing_back(text, parameters, one, other, count - front);
     if left <= FEW {
         return comparing::all_settled(text, parameters, one, other, left);
     }

@@ -1,18 +1,15 @@
--- `comparing::all_settled`: wherever the loop stands, the rows up to there stand in both runs as often.
+-- `comparing::all_settled`: wherever the loop stands, no parameter stands oftener among the rows up to there than in the second run.
 use Prim.Native.Nat.{_-_, _≤_}
-use mathlib.Core.Path.{_≡_, sym, _∙_}
-use mathlib.Core.Bool.{true}
+use mathlib.Core.Path.{sym, _∙_}
 use native.Mathlib.Omega.{arith}
 use borrow.Author.Tests.{not-true, not-false}
-use Rattle.comparing.specs.Multisets.{asOften}
-use Rattle.comparing.specs.Pieces.{sameParameter}
-use Rattle.comparing.specs.Runs.{runIn}
+use Rattle.comparing.specs.Runs.{SettledTo}
 use Rattle.comparing.proofs.Rows.{settle-none, settle-on, not-settled, all-told}
 use Rattle.comparing.proofs.all_settled.Statement.{statement}
 use Rattle.comparing.proofs.all_settled.Tie as tie
 
 abbrev Inv-loop : tie.InvT-loop
-Inv-loop text table a b count i₀ i = (i ≤ count) × (asOften sameParameter (runIn text table a count) (runIn text table b count) (runIn text table a i) ≡ true)
+Inv-loop text table a b count i₀ i = (i ≤ count) × SettledTo text table a b count i
 
 abbrev μ-loop : tie.MeasureT-loop
 μ-loop text table a b count i₀ i = count - i
@@ -36,7 +33,8 @@ returns : tie.Need-returns Inv-loop μ-loop
 returns c =
     let l = loop-of (c .before) in
     let s = start-of l .args in
-    not-settled (s .text .now) (s .parameters .now) (s .a) (s .b) (s .count) (l .loop .i) (sym (c .before .is-settled .ensures) ∙ not-true _ (c .if1 .taken))
+    not-settled (s .text .now) (s .parameters .now) (s .a) (s .b) (s .count) (l .loop .i) (omega arith) (omega arith)
+    (sym (c .before .is-settled .ensures) ∙ not-true _ (c .if1 .taken))
 
 add-i : tie.Need-add-i Inv-loop μ-loop
 add-i c = omega arith

@@ -1,13 +1,13 @@
--- `sifting::in_rounds`: where a round begins, no tally is left over, and the rows before it stand in both runs as often.
+-- `sifting::in_rounds`: where a round begins, no tally is left over, and no parameter stands oftener among the rows before it than in the second run.
 use Prim.Native.Nat.{_-_, _≤_}
 use mathlib.Core.Path.{_≡_, refl, sym, _∙_}
 use native.Mathlib.Omega.{arith}
 use lib.ListN.{length, getD-replicate}
 use borrow.Author.Tests.{not-true, not-false}
+use Rattle.comparing.specs.Runs.{SettledTo}
 use Rattle.comparing.proofs.Rows.{settle-none, all-told}
 use Rattle.sifting.specs.Shelves.{shelfSize}
 use Rattle.sifting.specs.Tallies.{Empty}
-use Rattle.sifting.specs.Rounds.{SettledTo}
 use Rattle.sifting.proofs.in_rounds.Statement.{statement}
 use Rattle.sifting.proofs.in_rounds.Tie as tie
 

@@ -1,14 +1,13 @@
--- `sifting::settle`: wherever the loop stands, the rows up to there stand in both runs as often.
+-- `sifting::settle`: wherever the loop stands, no parameter stands oftener among the rows up to there than in the second run.
 use Prim.Native.Nat.{_+_, _-_, _≤_, _<_}
 use mathlib.Core.Path.{_≡_, sym, _∙_}
 use mathlib.Core.Bool.{true, false≢true}
 use mathlib.Core.Logic.{⊎-elim}
 use native.Mathlib.Omega.{arith}
 use borrow.Author.Tests.{not-true, not-false}
-use Rattle.comparing.specs.Runs.{settled}
+use Rattle.comparing.specs.Runs.{settled, SettledTo}
 use Rattle.comparing.proofs.Rows.{settle-on, not-settled}
 use Rattle.sifting.specs.Shelves.{shelfSize}
-use Rattle.sifting.specs.Rounds.{SettledTo}
 use Rattle.sifting.proofs.Rounds.{lands-settled}
 use Rattle.sifting.proofs.settle.Statement.{statement}
 use Rattle.sifting.proofs.settle.Tie as tie
@@ -47,7 +46,8 @@ landed : (c : At tie.After-landing-of) → c .landing-of .result < shelfSize →
 landed c h =
     let l = loop-of c in
     let s = start-of l .args in
-    lands-settled (s .text .now) (s .parameters .now) (s .shelf .now) (s .n) (s .a) (s .b) (s .count) (start-of l .pre .1 .1 .0) (l .loop .k) (c .landing-of .ensures) h
+    lands-settled (s .text .now) (s .parameters .now) (s .shelf .now) (s .n) (s .a) (s .b) (s .count) (start-of l .pre .1 .1 .0)
+    (l .loop .k) (omega arith) (omega arith) (c .landing-of .ensures) h
 
 loop-holds : tie.Need-loop-holds Inv-loop μ-loop
 loop-holds c = let s = c .before .before .before in (omega arith, omega arith, s .pre .1 .1 .1)
@@ -66,7 +66,7 @@ returns c =
     let l = loop-of (c .before .before .before) in
     let s = start-of l .args in
     let e = sym (c .before .is-settled .ensures) ∙ not-true _ (c .if2 .taken) in
-    (λ q. sym (not-settled (s .text .now) (s .parameters .now) (s .a) (s .b) (s .count) (l .loop .k) e), λ q. absurd (false≢true q))
+    (λ q. sym (not-settled (s .text .now) (s .parameters .now) (s .a) (s .b) (s .count) (l .loop .k) (omega arith) (omega arith) e), λ q. absurd (false≢true q))
 
 add-k : tie.Need-add-k Inv-loop μ-loop
 add-k c = omega arith
