@@ -1,12 +1,12 @@
 -- Laws of bytes as one number: what is asked of each byte is asked of all of them at once. Assumes nothing.
 use mathlib.Core.Path.{_≡_, refl, sym, ap, _∙_}
-use mathlib.Core.Bool.{Bool, true, false, not}
+use mathlib.Core.Bool.{Bool, true, false, not, false≢true}
 use mathlib.Core.List.{List, [], _∷_, _++_}
 use Prim.Native.Nat.{ℕ, zero, suc, _+_, _-_, _*_, _/_, _%_, _^_, _≤_, _<_}
 use native.Mathlib.Nat.{zero-add, add-zero, suc-add, mul-one}
 use native.Mathlib.Omega.{arith}
-use lib.ListN.{length, getD, drop}
-use lib.Seq.{drop-cons}
+use lib.ListN.{length, getD, take, drop}
+use lib.Seq.{drop-cons, take-add, take-append-seam}
 use lib.Dec.{eqb, leb, ltb, lit<, lit≤}
 use lib.Bits.{bitAnd, bitOr, bitXor, and-le-l, and-le-r, and-zero-l, or-zero-l, xor-zero-l, and-block, or-block, or-lt, xor-block, xor-lt, xor-self, xor-add-and, shifted-half, shifted-even}
 use lib.Count.{trailingZeros, trailing-of-zero}
@@ -15,7 +15,9 @@ use Rattle.octets.specs.Choice.{pick}
 use Rattle.octets.specs.Bytes.{capital, common, other}
 use Rattle.octets.specs.Runs.{run}
 use Rattle.octets.specs.Numbers.{each, number, marks, eight}
+use Rattle.octets.specs.Words.{sameBytes}
 use Rattle.octets.proofs.Runs.{within, through, ends-inside}
+use Rattle.octets.proofs.Words.{same-eq, same-refl}
 use Rattle.octets.proofs.Every.{equal}
 
 abbrev Small : (ℕ → ℕ) → Type 0
@@ -128,6 +130,25 @@ module _ (from past : ℕ) (small-from : from ≤ 128) (small-past : past ≤ 12
       )
       (alike (outside 127 from past 128) (λ (x : ℕ). pick (class x) 0 128) mark xs k)
 
+-- ---- equal numbers are equal bytes
+
+-- the first byte is what is left over by 256
+by-number : (xs ys : List ℕ) → Bytes xs → Bytes ys → length xs ≡ length ys → number xs ≡ number ys → xs ≡ ys
+unfolding Bytes
+by-number [] [] h k l e = refl
+by-number [] (y ∷ ys) h k l e = absurd (omega arith)
+by-number (x ∷ xs) [] h k l e = absurd (omega arith)
+by-number (x ∷ xs) (y ∷ ys) h k l e =
+    let first : x ≡ y = omega (arith, h .0, k .0) in
+    cc (first, by-number xs ys (h .1) (k .1) (omega arith) (omega (arith, first)))
+
+same-number : (xs ys : List ℕ) → Bytes xs → Bytes ys → length xs ≡ length ys → eqb (number xs) (number ys) ≡ sameBytes xs ys
+same-number xs ys h k l = go (sameBytes xs ys) refl
+  where
+    go : (t : Bool) → sameBytes xs ys ≡ t → eqb (number xs) (number ys) ≡ t
+    go true t = eq-eqb (number xs) (number ys) (ap number (same-eq xs ys t))
+    go false t = ne-eqb (number xs) (number ys) (λ e. false≢true (sym t ∙ (ap (sameBytes xs) (sym (by-number xs ys h k l e)) ∙ same-refl xs)))
+
 -- ---- the eight bytes from a place on
 
 module _ (a : List ℕ) (at : ℕ) (known : (i : ℕ) → getD a i 0 < 256) where
@@ -157,6 +178,38 @@ module _ (a : List ℕ) (at : ℕ) (known : (i : ℕ) → getD a i 0 < 256) wher
   found-uncommon =
       outside-each 96 0 (lit≤ tt) (lit≤ tt) common
       (equal (outside 127 96 0 128) (λ (x : ℕ). pick (common x) 0 128) 256 refl) (eight a at) bytes
+
+pub both-eights : (a b : List ℕ) (at : ℕ) → ((i : ℕ) → getD a i 0 < 256) → ((i : ℕ) → getD b i 0 < 256)
+    → eqb (number (eight a at)) (number (eight b at)) ≡ sameBytes (eight a at) (eight b at)
+both-eights a b at known-a known-b = same-number (eight a at) (eight b at) (bytes a at known-a) (bytes b at known-b) refl
+
+-- they stand at the front of what follows the place
+next : (a : List ℕ) (i j : ℕ) → i < length a → j ≡ suc i → {xs : List ℕ} → drop j a ≡ xs → drop i a ≡ getD a i 0 ∷ xs
+next a i j h e r = drop-cons a i 0 h ∙ ap (λ (n : ℕ). getD a i 0 ∷ drop n a) (sym e) ∙ ap (λ (ys : List ℕ). getD a i 0 ∷ ys) r
+
+in-front : (a : List ℕ) (at : ℕ) → at + 8 ≤ length a → drop at a ≡ eight a at ++ drop (at + 8) a
+in-front a at h =
+    next a at (at + 1) (omega arith) (omega arith)
+    (next a (at + 1) (at + 2) (omega arith) (omega arith)
+    (next a (at + 2) (at + 3) (omega arith) (omega arith)
+    (next a (at + 3) (at + 4) (omega arith) (omega arith)
+    (next a (at + 4) (at + 5) (omega arith) (omega arith)
+    (next a (at + 5) (at + 6) (omega arith) (omega arith)
+    (next a (at + 6) (at + 7) (omega arith) (omega arith)
+    (next a (at + 7) (at + 8) (omega arith) (omega arith) refl)))))))
+
+eight-more : (a : List ℕ) (at : ℕ) → at + 8 ≤ length a → take (at + 8) a ≡ take at a ++ eight a at
+eight-more a at h =
+    take-add at 8 a
+    ∙ ap (λ (zs : List ℕ). take at a ++ take 8 zs) (in-front a at h)
+    ∙ ap (λ (zs : List ℕ). take at a ++ zs) (take-append-seam (eight a at) (drop (at + 8) a))
+
+-- two texts begin with the same bytes and the next eight are the same: they begin with the same eight more
+pub eight-same : (a b : List ℕ) (at : ℕ) → at + 8 ≤ length a → at + 8 ≤ length b → take at a ≡ take at b
+    → sameBytes (eight a at) (eight b at) ≡ true → take (at + 8) a ≡ take (at + 8) b
+eight-same a b at h k e t =
+    let s : eight a at ≡ eight b at = same-eq (eight a at) (eight b at) t in
+    eight-more a at h ∙ (rw (e, s) (sym (eight-more b at k)))
 
 -- ---- the first mark tells how long the run is
 
@@ -202,50 +255,35 @@ module _ (class : ℕ → Bool) where
       go true e rest = omega (arith, rest (omega arith))
       go false e rest = absurd (omega arith)
 
-next : (a : List ℕ) (i j : ℕ) → i < length a → j ≡ suc i → {xs : List ℕ} → drop j a ≡ xs → drop i a ≡ getD a i 0 ∷ xs
-next a i j h e r = drop-cons a i 0 h ∙ ap (λ (n : ℕ). getD a i 0 ∷ drop n a) (sym e) ∙ ap (λ (ys : List ℕ). getD a i 0 ∷ ys) r
+module _ (class : ℕ → Bool) (a : List ℕ) (at : ℕ) (h : at + 8 ≤ length a) (m : ℕ) (e : m ≡ marks class (eight a at)) where
+  told : trailingZeros 64 m / 8 ≡ run class (eight a at)
+  told = ap (λ (n : ℕ). trailingZeros 64 n / 8) e ∙ first-mark class (eight a at)
 
-module _ (class : ℕ → Bool) (a : List ℕ) (at : ℕ) (h : at + 8 ≤ length a) where
-  in-front : drop at a ≡ eight a at ++ drop (at + 8) a
-  in-front =
-      next a at (at + 1) (omega arith) (omega arith)
-      (next a (at + 1) (at + 2) (omega arith) (omega arith)
-      (next a (at + 2) (at + 3) (omega arith) (omega arith)
-      (next a (at + 3) (at + 4) (omega arith) (omega arith)
-      (next a (at + 4) (at + 5) (omega arith) (omega arith)
-      (next a (at + 5) (at + 6) (omega arith) (omega arith)
-      (next a (at + 6) (at + 7) (omega arith) (omega arith)
-      (next a (at + 7) (at + 8) (omega arith) (omega arith) refl)))))))
+  pub at-most : trailingZeros 64 m / 8 ≤ 8
+  at-most = omega (arith, told, within class (eight a at))
 
-  module _ (m : ℕ) (e : m ≡ marks class (eight a at)) where
-    told : trailingZeros 64 m / 8 ≡ run class (eight a at)
-    told = ap (λ (n : ℕ). trailingZeros 64 n / 8) e ∙ first-mark class (eight a at)
+  short : (m ≡ 0 → ⊥) → run class (eight a at) < 8
+  short some =
+      let never : run class (eight a at) ≡ 8 → ⊥ = λ w. some (e ∙ no-mark class (eight a at) w) in
+      omega (arith, within class (eight a at), never)
 
-    pub at-most : trailingZeros 64 m / 8 ≤ 8
-    at-most = omega (arith, told, within class (eight a at))
+  pub ends-here : (m ≡ 0 → ⊥) → run class (drop at a) ≡ trailingZeros 64 m / 8
+  ends-here some = ap (run class) (in-front a at h) ∙ ends-inside class (eight a at) (drop (at + 8) a) (short some) ∙ sym told
 
-    short : (m ≡ 0 → ⊥) → run class (eight a at) < 8
-    short some =
-        let never : run class (eight a at) ≡ 8 → ⊥ = λ w. some (e ∙ no-mark class (eight a at) w) in
-        omega (arith, within class (eight a at), never)
+  pub goes-on : m ≡ 0 → run class (drop at a) ≡ 8 + run class (drop (at + 8) a)
+  goes-on none =
+      let full : run class (eight a at) ≡ 8 = sym told ∙ ap (λ (n : ℕ). trailingZeros 64 n / 8) none ∙ ap (λ (n : ℕ). n / 8) (trailing-of-zero 64) in
+      ap (run class) (in-front a at h) ∙ through class (eight a at) (drop (at + 8) a) full
 
-    pub ends-here : (m ≡ 0 → ⊥) → run class (drop at a) ≡ trailingZeros 64 m / 8
-    ends-here some = ap (run class) in-front ∙ ends-inside class (eight a at) (drop (at + 8) a) (short some) ∙ sym told
-
-    pub goes-on : m ≡ 0 → run class (drop at a) ≡ 8 + run class (drop (at + 8) a)
-    goes-on none =
-        let full : run class (eight a at) ≡ 8 = sym told ∙ ap (λ (n : ℕ). trailingZeros 64 n / 8) none ∙ ap (λ (n : ℕ). n / 8) (trailing-of-zero 64) in
-        ap (run class) in-front ∙ through class (eight a at) (drop (at + 8) a) full
-
-    -- any mark at all: the run ends inside the eight
-    pub any-mark : not (eqb m 0) ≡ ltb (run class (drop at a)) 8
-    any-mark = go (eqb m 0) refl
-      where
-        go : (t : Bool) → eqb m 0 ≡ t → not t ≡ ltb (run class (drop at a)) 8
-        go true t = sym (le-ltb (run class (drop at a)) 8 (omega (arith, goes-on (eqb-true m 0 t))))
-        go false t =
-            let some = eqb-false m 0 t in
-            sym (lt-ltb (run class (drop at a)) 8 (omega (arith, ends-here some, told, short some)))
+  -- any mark at all: the run ends inside the eight
+  pub any-mark : not (eqb m 0) ≡ ltb (run class (drop at a)) 8
+  any-mark = go (eqb m 0) refl
+    where
+      go : (t : Bool) → eqb m 0 ≡ t → not t ≡ ltb (run class (drop at a)) 8
+      go true t = sym (le-ltb (run class (drop at a)) 8 (omega (arith, goes-on (eqb-true m 0 t))))
+      go false t =
+          let some = eqb-false m 0 t in
+          sym (lt-ltb (run class (drop at a)) 8 (omega (arith, ends-here some, told, short some)))
 
 -- ---- a loop over eights for whether n bytes from a place on are of a class: those before i are, and it may look past the n
 

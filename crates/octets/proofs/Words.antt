@@ -1,14 +1,14 @@
--- Laws of equal bytes, of equal words and of words at the front of a line, one byte at a time. Assumes nothing.
+-- Laws of equal bytes, of equal words and of words at the front of a line, one byte at a time and behind what both begin with. Assumes nothing.
 use mathlib.Core.Path.{_≡_, refl, sym, ap, _∙_}
 use mathlib.Core.Bool.{Bool, true, false, _&&_}
-use mathlib.Core.List.{List, [], _∷_, map}
+use mathlib.Core.List.{List, [], _∷_, _++_, map, map-append}
 use Prim.Native.Nat.{ℕ, suc, _+_, _≤_, _<_, zero-le, suc-le-suc}
 use native.Mathlib.Numerals.{add-one}
 use native.Mathlib.Omega.{arith}
-use lib.ListN.{length, getD, drop, drop-of-length-le, length-map}
+use lib.ListN.{length, getD, take, drop, drop-of-length-le, take-append-drop, length-map}
 use lib.Seq.{drop-cons}
 use lib.Dec.{eqb}
-use borrow.Author.Tests.{eqb-true, eq-eqb, ne-eqb}
+use borrow.Author.Tests.{eqb-true, eq-eqb}
 use Rattle.octets.specs.Bytes.{lowered}
 use Rattle.octets.specs.Words.{sameBytes, sameWord, startsWord}
 
@@ -50,6 +50,18 @@ unfolding sameBytes
 same-refl [] = refl
 same-refl (x ∷ xs) = rw (eq-eqb x x refl) (same-refl xs)
 
+-- what both begin with does not count
+same-behind : (zs xs ys : List ℕ) → sameBytes (zs ++ xs) (zs ++ ys) ≡ sameBytes xs ys
+unfolding sameBytes
+same-behind [] xs ys = refl
+same-behind (z ∷ zs) xs ys = rw (eq-eqb z z refl) (same-behind zs xs ys)
+
+pub same-rest : (xs ys : List ℕ) (n : ℕ) → take n xs ≡ take n ys → sameBytes (drop n xs) (drop n ys) ≡ sameBytes xs ys
+same-rest xs ys n e =
+    sym (same-behind (take n xs) (drop n xs) (drop n ys))
+    ∙ ap (λ (zs : List ℕ). sameBytes (take n xs ++ drop n xs) (zs ++ drop n ys)) e
+    ∙ rw (take-append-drop n xs, take-append-drop n ys)
+
 -- words, letter by letter
 pub word-turn : (xs ys : List ℕ) (i : ℕ) → i < length xs → i < length ys
     → sameWord (drop i xs) (drop i ys) ≡ eqb (lowered (getD xs i 0)) (lowered (getD ys i 0)) && sameWord (drop (i + 1) xs) (drop (i + 1) ys)
@@ -60,6 +72,16 @@ pub word-ended : (xs ys : List ℕ) (i : ℕ) → length xs ≤ i → length ys 
 unfolding sameBytes
 word-ended xs ys i h k = rw (drop-of-length-le xs h, drop-of-length-le ys k)
 
+-- equal bytes are equal in lower case
+pub word-rest : (xs ys : List ℕ) (n : ℕ) → take n xs ≡ take n ys → sameWord (drop n xs) (drop n ys) ≡ sameWord xs ys
+word-rest xs ys n e =
+    sym (same-behind (map lowered (take n xs)) (map lowered (drop n xs)) (map lowered (drop n ys)))
+    ∙ ap (λ (zs : List ℕ). sameBytes (map lowered (take n xs) ++ map lowered (drop n xs)) (map lowered zs ++ map lowered (drop n ys))) e
+    ∙ rw (parts xs, parts ys)
+  where
+    parts : (zs : List ℕ) → map lowered (take n zs) ++ map lowered (drop n zs) ≡ map lowered zs
+    parts zs = sym (map-append lowered (take n zs) (drop n zs)) ∙ ap (map lowered) (take-append-drop n zs)
+
 pub unlike-word : (xs ys : List ℕ) → (length xs ≡ length ys → ⊥) → sameWord xs ys ≡ false
 unlike-word xs ys h = unlike (map lowered xs) (map lowered ys) (λ e. h (sym (length-map xs lowered) ∙ (e ∙ length-map ys lowered)))
 
@@ -67,14 +89,6 @@ pub starts-turn : (ws xs : List ℕ) (i : ℕ) → i < length ws → i < length 
     → startsWord (drop i ws) (drop i xs) ≡ eqb (lowered (getD xs i 0)) (lowered (getD ws i 0)) && startsWord (drop (i + 1) ws) (drop (i + 1) xs)
 unfolding startsWord
 starts-turn ws xs i h k = rw (drop-cons ws i 0 h, drop-cons xs i 0 k, add-one)
-
-pub starts-on : (ws xs : List ℕ) (i : ℕ) → i < length ws → i < length xs → lowered (getD xs i 0) ≡ lowered (getD ws i 0)
-    → startsWord (drop i ws) (drop i xs) ≡ startsWord (drop (i + 1) ws) (drop (i + 1) xs)
-starts-on ws xs i h k e = starts-turn ws xs i h k ∙ rw (eq-eqb (lowered (getD xs i 0)) (lowered (getD ws i 0)) e)
-
-pub starts-off : (ws xs : List ℕ) (i : ℕ) → i < length ws → i < length xs → (lowered (getD xs i 0) ≡ lowered (getD ws i 0) → ⊥)
-    → startsWord (drop i ws) (drop i xs) ≡ false
-starts-off ws xs i h k e = starts-turn ws xs i h k ∙ rw (ne-eqb (lowered (getD xs i 0)) (lowered (getD ws i 0)) e)
 
 pub starts-ended : (ws xs : List ℕ) (i : ℕ) → length ws ≤ i → startsWord (drop i ws) (drop i xs) ≡ true
 unfolding startsWord

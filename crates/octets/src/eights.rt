@@ -5,6 +5,7 @@ ghost use lib.ListN.{length, getD};
 ghost use lib.Count.{trailingZeros};
 ghost use Rattle.octets.specs.Bytes.{capital, common, other};
 ghost use Rattle.octets.specs.Numbers.{number, marks, eight};
+ghost use Rattle.octets.specs.Words.{sameBytes};
 
 // 1 in each byte, the lower seven bits of each, and the top bit of each.
 const ONES: u64 = 0x0101_0101_0101_0101;
@@ -39,6 +40,14 @@ fn number_at(a: &[u8], at: usize) -> u64
         + 0x100_0000_0000 * byte(a, at + 5)
         + 0x1_0000_0000_0000 * byte(a, at + 6)
         + 0x100_0000_0000_0000 * byte(a, at + 7)
+}
+
+// Whether the 8 bytes from `at` on are the same in both.
+pub fn same(a: &[u8], b: &[u8], at: usize) -> bool
+    requires { ⌜ (at + 8 ≤ length (now a)) × (at + 8 ≤ length (now b)) ⌝ }
+    ensures { λ r. ⌜ r ≡ sameBytes (eight (now (a .entry)) at) (eight (now (b .entry)) at) ⌝ }
+{
+    number_at(a, at) == number_at(b, at)
 }
 
 // Marks each of the 8 bytes from `at` on that is b.

@@ -339,13 +339,29 @@ pub fn room_for(needed: usize, room: usize) -> Output
     }
 }
 
+// How many bytes at the front of two texts of one length are seen to be the same, eight at a time.
+fn same_eights(a: &[u8], b: &[u8]) -> usize
+    requires { ⌜ length (now a) ≡ length (now b) ⌝ }
+    ensures { λ r. ⌜ (r ≤ length (now (a .entry))) × (take r (now (a .entry)) ≡ take r (now (b .entry))) ⌝ }
+{
+    let mut i: usize = 0;
+    while 8 <= a.len() - i {
+        if !eights::same(a, b, i) {
+            return i;
+        }
+        i += 8;
+    }
+    i
+}
+
+// Whether two texts are the same. What the eights leave is compared byte by byte.
 pub fn same_bytes(a: &[u8], b: &[u8]) -> bool
     ensures { λ r. ⌜ r ≡ sameBytes (now (a .entry)) (now (b .entry)) ⌝ }
 {
     if a.len() != b.len() {
         return false;
     }
-    let mut i: usize = 0;
+    let mut i = same_eights(a, b);
     while i < a.len() {
         if a[i] != b[i] {
             return false;
@@ -378,14 +394,14 @@ fn same_letter(a: u8, b: u8) -> bool
     lower(a) == lower(b)
 }
 
-// Whether two words are the same, in any case of their letters.
+// Whether two words are the same, in any case of their letters. Those that are mostly have the same bytes.
 pub fn same_word(a: &[u8], b: &[u8]) -> bool
     ensures { λ r. ⌜ r ≡ sameWord (now (a .entry)) (now (b .entry)) ⌝ }
 {
     if a.len() != b.len() {
         return false;
     }
-    let mut i: usize = 0;
+    let mut i = same_eights(a, b);
     while i < a.len() {
         if !same_letter(a[i], b[i]) {
             return false;
@@ -404,7 +420,7 @@ pub fn starts_word(word: &[u8], line: &[u8]) -> bool
         if line.len() <= i {
             return false;
         }
-        if lower(line[i]) != lower(word[i]) {
+        if !same_letter(line[i], word[i]) {
             return false;
         }
         i += 1;

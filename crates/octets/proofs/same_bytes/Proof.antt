@@ -1,11 +1,13 @@
-use Rattle.octets.proofs.Words.{same-turn, same-ended, unlike}
-use borrow.Author.Tests.{eq-eqb, ne-eqb}
 -- `octets::same_bytes`: what is left compares as the whole does.
-use Prim.Native.Nat.{_≤_, _-_}
-use mathlib.Core.Path.{_≡_, refl, sym, _∙_}
-use lib.ListN.{length, getD, drop}
-use Rattle.octets.specs.Words.{sameBytes}
+use Prim.Native.Nat.{_+_, _-_, _≤_}
+use mathlib.Core.Path.{_≡_, sym, ap, _∙_}
+use mathlib.Core.Bool.{Bool, true, false, _&&_}
 use native.Mathlib.Omega.{arith}
+use lib.ListN.{length, getD, drop}
+use lib.Dec.{eqb}
+use borrow.Author.Tests.{eq-eqb, ne-eqb}
+use Rattle.octets.specs.Words.{sameBytes}
+use Rattle.octets.proofs.Words.{same-turn, same-ended, same-rest, unlike}
 use Rattle.octets.proofs.same_bytes.Statement.{statement}
 use Rattle.octets.proofs.same_bytes.Tie as tie
 
@@ -15,11 +17,39 @@ Inv-loop a b i₀ i = (i ≤ length a) × (sameBytes (drop i a) (drop i b) ≡ s
 abbrev μ-loop : tie.MeasureT-loop
 μ-loop a b i₀ i = length a - i
 
+abbrev At : (tie.InvT-loop → tie.MeasureT-loop → Type 0) → Type 0
+At place = place Inv-loop μ-loop
+
+-- what the proofs look back to
+abbrev loop-of : At tie.After-shared-slice-known4 → At tie.At-loop
+loop-of c = c .before .before .before
+
+abbrev start-of : At tie.After-same-eights → At tie.Start
+start-of c = c .before .before .before .before
+
+-- one turn: the bytes are compared, and then what is left
+turn : (c : At tie.After-shared-slice-known4) (t : Bool) →
+    let l = loop-of c in
+    let s = start-of (l .before) .args in
+    eqb (getD (s .a .now) (l .loop .i) 0) (getD (s .b .now) (l .loop .i) 0) ≡ t
+    → t && sameBytes (drop (l .loop .i + 1) (s .a .now)) (drop (l .loop .i + 1) (s .b .now)) ≡ sameBytes (s .a .now) (s .b .now)
+turn c t e =
+    let l = loop-of c in
+    let s = start-of (l .before) .args in
+    ap (λ (u : Bool). u && sameBytes (drop (l .loop .i + 1) (s .a .now)) (drop (l .loop .i + 1) (s .b .now))) (sym e)
+    ∙ (sym (same-turn (s .a .now) (s .b .now) (l .loop .i) (omega arith) (omega arith)) ∙ l .loop .inv .1)
+
 returns : tie.Need-returns Inv-loop μ-loop
-returns c = sym (unlike (c .before .args .a .now) (c .before .args .b .now) (c .if1 .taken))
+returns c = let s = c .before .before .before .args in sym (unlike (s .a .now) (s .b .now) (c .if1 .taken))
+
+same-eights-requires : tie.Need-same-eights-requires Inv-loop μ-loop
+same-eights-requires c κs = c .if1 .left
 
 loop-holds : tie.Need-loop-holds Inv-loop μ-loop
-loop-holds c = (omega arith, refl)
+loop-holds c =
+    let s = start-of c .args in
+    let e = c .same-eights .ensures in
+    (e .0, same-rest (s .a .now) (s .b .now) (c .same-eights .result) (e .1))
 
 shared-slice-read-if2 : tie.Need-shared-slice-read-if2 Inv-loop μ-loop
 shared-slice-read-if2 c = omega arith
@@ -28,10 +58,7 @@ shared-slice-read-if2-2 : tie.Need-shared-slice-read-if2-2 Inv-loop μ-loop
 shared-slice-read-if2-2 c = omega arith
 
 returns-2 : tie.Need-returns-2 Inv-loop μ-loop
-returns-2 c =
-    let l = c .before .before .before .before in
-    let s = l .before .before .args in let i = l .loop .i in
-    sym (sym (l .loop .inv .1) ∙ same-turn (s .a .now) (s .b .now) i (omega arith) (omega arith) ∙ rw (ne-eqb (getD (s .a .now) i 0) (getD (s .b .now) i 0) (c .if2 .taken)))
+returns-2 c = turn (c .before) false (ne-eqb _ _ (c .if2 .taken))
 
 add-i : tie.Need-add-i Inv-loop μ-loop
 add-i c = omega arith
@@ -40,13 +67,13 @@ loop-less : tie.Need-loop-less Inv-loop μ-loop
 loop-less c = omega arith
 
 loop-again : tie.Need-loop-again Inv-loop μ-loop
-loop-again c =
-    let l = c .before .before .before .before in
-    let s = l .before .before .args in let i = l .loop .i in
-    (omega arith, sym (same-turn (s .a .now) (s .b .now) i (omega arith) (omega arith) ∙ rw (eq-eqb (getD (s .a .now) i 0) (getD (s .b .now) i 0) (c .if2 .left))) ∙ l .loop .inv .1)
+loop-again c = (omega arith, turn (c .before) true (eq-eqb _ _ (c .if2 .left)))
 
 returns-3 : tie.Need-returns-3 Inv-loop μ-loop
-returns-3 c = let s = c .before .before .before .args in sym (same-ended (s .a .now) (s .b .now) (c .before .loop .i) (omega arith) (omega arith)) ∙ c .before .loop .inv .1
+returns-3 c =
+    let l = c .before in
+    let s = start-of (l .before) .args in
+    sym (same-ended (s .a .now) (s .b .now) (l .loop .i) (omega arith) (omega arith)) ∙ l .loop .inv .1
 
 pub same-bytes-spec : {M : Type 1} → statement M
 same-bytes-spec =
@@ -55,6 +82,7 @@ same-bytes-spec =
     Inv-loop
     μ-loop
     returns
+    same-eights-requires
     loop-holds
     shared-slice-read-if2
     shared-slice-read-if2-2
