@@ -17,7 +17,7 @@ use Rattle.octets.specs.Runs.{run}
 use Rattle.octets.specs.Numbers.{each, number, marks, eight}
 use Rattle.octets.specs.Words.{sameBytes}
 use Rattle.octets.proofs.Runs.{within, through, ends-inside}
-use Rattle.octets.proofs.Words.{same-eq, same-refl}
+use Rattle.octets.proofs.Words.{same-eq, same-refl, differ-in-front}
 use Rattle.octets.proofs.Every.{equal}
 
 abbrev Small : (ℕ → ℕ) → Type 0
@@ -210,6 +210,11 @@ pub eight-same : (a b : List ℕ) (at : ℕ) → at + 8 ≤ length a → at + 8 
 eight-same a b at h k e t =
     let s : eight a at ≡ eight b at = same-eq (eight a at) (eight b at) t in
     eight-more a at h ∙ (rw (e, s) (sym (eight-more b at k)))
+
+-- the next eight differ: so does what is left
+pub eight-differ : (a b : List ℕ) (at : ℕ) → at + 8 ≤ length a → at + 8 ≤ length b
+    → sameBytes (eight a at) (eight b at) ≡ false → sameBytes (drop at a) (drop at b) ≡ false
+eight-differ a b at h k e = rw (in-front a at h, in-front b at k) (differ-in-front (eight a at) (eight b at) (drop (at + 8) a) (drop (at + 8) b) refl e)
 
 -- ---- the first mark tells how long the run is
 

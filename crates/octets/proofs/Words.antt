@@ -1,6 +1,6 @@
 -- Laws of equal bytes, of equal words and of words at the front of a line, one byte at a time and behind what both begin with. Assumes nothing.
 use mathlib.Core.Path.{_≡_, refl, sym, ap, _∙_}
-use mathlib.Core.Bool.{Bool, true, false, _&&_}
+use mathlib.Core.Bool.{Bool, true, false, _&&_, false≢true}
 use mathlib.Core.List.{List, [], _∷_, _++_, map, map-append}
 use Prim.Native.Nat.{ℕ, suc, _+_, _≤_, _<_, zero-le, suc-le-suc}
 use native.Mathlib.Numerals.{add-one}
@@ -61,6 +61,19 @@ same-rest xs ys n e =
     sym (same-behind (take n xs) (drop n xs) (drop n ys))
     ∙ ap (λ (zs : List ℕ). sameBytes (take n xs ++ drop n xs) (zs ++ drop n ys)) e
     ∙ rw (take-append-drop n xs, take-append-drop n ys)
+
+-- fronts of one length differ: so do the lists, whatever stands behind
+pub differ-in-front : (xs ys us vs : List ℕ) → length xs ≡ length ys → sameBytes xs ys ≡ false → sameBytes (xs ++ us) (ys ++ vs) ≡ false
+unfolding sameBytes
+differ-in-front [] [] us vs l e = absurd (false≢true (sym e))
+differ-in-front [] (y ∷ ys) us vs l e = absurd (omega arith)
+differ-in-front (x ∷ xs) [] us vs l e = absurd (omega arith)
+differ-in-front (x ∷ xs) (y ∷ ys) us vs l e = go (eqb x y) e (differ-in-front xs ys us vs (omega arith))
+  where
+    go : (t : Bool) → t && sameBytes xs ys ≡ false → (sameBytes xs ys ≡ false → sameBytes (xs ++ us) (ys ++ vs) ≡ false)
+        → t && sameBytes (xs ++ us) (ys ++ vs) ≡ false
+    go true p rest = rest p
+    go false p rest = refl
 
 -- words, letter by letter
 pub word-turn : (xs ys : List ℕ) (i : ℕ) → i < length xs → i < length ys

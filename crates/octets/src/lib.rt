@@ -1,5 +1,6 @@
 // Bytes: their classes, keys, equal parts, words in any case, views, and the numbers that every answer is made of.
 ghost use mathlib.Core.Path.{_≡_};
+ghost use mathlib.Core.Bool.{false};
 ghost use mathlib.Core.List.{_∷_, [], _++_};
 ghost use Prim.Native.Nat.{_+_, _≤_, min};
 ghost use lib.ListN.{length, getD, take, drop};
@@ -339,10 +340,12 @@ pub fn room_for(needed: usize, room: usize) -> Output
     }
 }
 
-// How many bytes at the front of two texts of one length are seen to be the same, eight at a time.
+// How many bytes at the front of two texts of one length are seen to be the same, eight at a time. It stops at the first eight
+// that differ, or where fewer than eight are left.
 fn same_eights(a: &[u8], b: &[u8]) -> usize
     requires { ⌜ length (now a) ≡ length (now b) ⌝ }
     ensures { λ r. ⌜ (r ≤ length (now (a .entry))) × (take r (now (a .entry)) ≡ take r (now (b .entry))) ⌝ }
+    ensures { λ r. ⌜ (r + 8 ≤ length (now (a .entry)) → sameBytes (drop r (now (a .entry))) (drop r (now (b .entry))) ≡ false) ⌝ }
 {
     let mut i: usize = 0;
     while 8 <= a.len() - i {
@@ -354,7 +357,7 @@ fn same_eights(a: &[u8], b: &[u8]) -> usize
     i
 }
 
-// Whether two texts are the same. What the eights leave is compared byte by byte.
+// Whether two texts are the same.
 pub fn same_bytes(a: &[u8], b: &[u8]) -> bool
     ensures { λ r. ⌜ r ≡ sameBytes (now (a .entry)) (now (b .entry)) ⌝ }
 {
@@ -362,6 +365,10 @@ pub fn same_bytes(a: &[u8], b: &[u8]) -> bool
         return false;
     }
     let mut i = same_eights(a, b);
+    // Eight that differ tell at once. What is left otherwise is less than eight, and is compared byte by byte.
+    if 8 <= a.len() - i {
+        return false;
+    }
     while i < a.len() {
         if a[i] != b[i] {
             return false;

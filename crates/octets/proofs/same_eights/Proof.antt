@@ -1,10 +1,10 @@
--- `octets::same_eights`: the bytes that were passed are the same.
+-- `octets::same_eights`: the bytes that were passed are the same, and eight that stop it differ.
 use Prim.Native.Nat.{_-_, _≤_}
 use mathlib.Core.Path.{_≡_, refl, sym, _∙_}
 use native.Mathlib.Omega.{arith}
 use lib.ListN.{length, take}
-use borrow.Author.Tests.{not-false}
-use Rattle.octets.proofs.Numbers.{eight-same}
+use borrow.Author.Tests.{not-true, not-false}
+use Rattle.octets.proofs.Numbers.{eight-same, eight-differ}
 use Rattle.octets.proofs.same_eights.Statement.{statement}
 use Rattle.octets.proofs.same_eights.Tie as tie
 
@@ -34,7 +34,11 @@ same-requires : tie.Need-same-requires Inv-loop μ-loop
 same-requires c κs = (omega arith, omega arith)
 
 returns : tie.Need-returns Inv-loop μ-loop
-returns c = loop-of (c .before) .loop .inv
+returns c =
+    let l = loop-of (c .before) in
+    let s = start-of l .args in
+    let t = sym (c .before .same .ensures) ∙ not-true _ (c .if1 .taken) in
+    (l .loop .inv, λ h. eight-differ (s .a .now) (s .b .now) (l .loop .i) (omega arith) (omega arith) t)
 
 add-i : tie.Need-add-i Inv-loop μ-loop
 add-i c = omega arith
@@ -50,7 +54,7 @@ loop-again c =
     (omega arith, eight-same (s .a .now) (s .b .now) (l .loop .i) (omega arith) (omega arith) (l .loop .inv .1) t)
 
 returns-2 : tie.Need-returns-2 Inv-loop μ-loop
-returns-2 c = c .before .loop .inv
+returns-2 c = (c .before .loop .inv, λ h. absurd (omega arith))
 
 pub same-eights-spec : {M : Type 1} → statement M
 same-eights-spec =

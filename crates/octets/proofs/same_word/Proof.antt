@@ -46,7 +46,7 @@ same-eights-requires c κs = c .if1 .left
 loop-holds : tie.Need-loop-holds Inv-loop μ-loop
 loop-holds c =
     let s = start-of c .args in
-    let e = c .same-eights .ensures in
+    let e = c .same-eights .ensures .0 in
     (e .0, word-rest (s .a .now) (s .b .now) (c .same-eights .result) (e .1))
 
 shared-slice-read-same-letter : tie.Need-shared-slice-read-same-letter Inv-loop μ-loop
