@@ -79,6 +79,13 @@ list-weaker {A} {same} {also} w (x ∷ xs) (y ∷ ys) e =
     let p = both (same x y) (alike same xs ys) e in
     and-both (also x y) (alike also xs ys) (w x y (p .0)) (list-weaker w xs ys (p .1))
 
+-- ---- properties
+
+-- key and value first, and then the parameters
+pub by-key-and-value : (values : List ℕ → List ℕ → Bool) (parameters : List Parameter → List Parameter → Bool) (p q : Property)
+    → samePropertyBy values parameters p q ≡ (sameKey (p .key) (q .key) && values (p .value) (q .value)) && parameters (p .parameters) (q .parameters)
+by-key-and-value values parameters p q = simp and-assoc
+
 -- ---- trees
 
 module _ {values : List ℕ → List ℕ → Bool} {parameters : List Parameter → List Parameter → Bool} (v : Equivalence values) (p : Equivalence parameters) where

@@ -1,4 +1,5 @@
 pub mod Alike
+pub mod Rows
 pub mod Parameters
 pub mod Properties
 pub mod Texts

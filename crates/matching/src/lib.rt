@@ -1,5 +1,6 @@
 // Whether two rows say the same: names, values, the parameters of two properties, and the properties of two components.
 ghost use mathlib.Core.Path.{_≡_};
+ghost use mathlib.Core.Bool.{_&&_};
 ghost use Prim.Native.Nat.{_<_, _/_};
 ghost use lib.ListN.{length};
 ghost use Rattle.octets.specs.Views.{viewed};
@@ -8,7 +9,7 @@ ghost use Rattle.tables.specs.Lent.{propertiesIn, parametersIn};
 ghost use Rattle.tables.specs.Trees.{propertiesOf};
 ghost use Rattle.tables.specs.Fronts.{ownParameters, ownProperty};
 ghost use Rattle.walking.specs.Places.{RisingParameters, Owns};
-ghost use Rattle.comparing.specs.Pieces.{sameName, sameParameters};
+ghost use Rattle.comparing.specs.Pieces.{sameName, sameKey, sameParameters};
 ghost use Rattle.matching.specs.Alike.{alike, samePropertyBy};
 ghost use Rattle.matching.specs.Tests.{valuesBy};
 use tables::ComponentRow;
@@ -58,6 +59,20 @@ pub fn same_value(values: Values, text: &[u8], p: PropertyRow, q: PropertyRow) -
     }
 }
 
+// Whether two properties have the same key and the same value; their parameters are not looked at.
+pub fn same_key_and_value(values: Values, text: &[u8], p: PropertyRow, q: PropertyRow) -> bool
+    ensures { λ r. ⌜ r
+        ≡ sameKey (viewed (now (text .entry)) (p .«key_start») (p .«key_len»)) (viewed (now (text .entry)) (q .«key_start») (q .«key_len»))
+        && valuesBy values (viewed (now (text .entry)) (p .«value_start») (p .«value_len»)) (viewed (now (text .entry)) (q .«value_start») (q .«value_len»)) ⌝ }
+{
+    let one = comparing::span(p.key_start, p.key_len);
+    let other = comparing::span(q.key_start, q.key_len);
+    if !comparing::same_key(text, one, other) {
+        return false;
+    }
+    same_value(values, text, p, q)
+}
+
 // Whether two properties have the same parameters, in any order.
 pub fn same_parameters(text: &[u8], parameters: &[u32], a: Held, b: Held) -> bool
     ensures { λ r. ⌜ r
@@ -90,14 +105,7 @@ pub fn same_property(
 {
     let p = tables::property_at(properties, a.property);
     let q = tables::property_at(properties, b.property);
-    if !comparing::same_key(
-        text,
-        comparing::span(p.key_start, p.key_len),
-        comparing::span(q.key_start, q.key_len),
-    ) {
-        return false;
-    }
-    if !same_value(values, text, p, q) {
+    if !same_key_and_value(values, text, p, q) {
         return false;
     }
     same_parameters(text, parameters, a, b)

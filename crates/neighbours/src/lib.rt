@@ -106,7 +106,7 @@ fn compare(
         ≡ pick (twinRows (lent (now (text .entry)) (now (components .entry)) (now (properties .entry)) (now (parameters .entry))) (before .row) (next .row)) 1 0)
         × Ordered (lent (now (text .entry)) (now (components .entry)) (now (properties .entry)) (now (parameters .entry))) (r .order .ordered) ⌝ }
 {
-    if !twins::same_front(Values::Exact, text, properties, parameters, before, next) {
+    if !twins::same_front(Values::Exact, text, properties, before, next) {
         return Pair { twins: 0, order };
     }
     let learnt = learn(components, properties, order);

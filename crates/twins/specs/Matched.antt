@@ -4,16 +4,12 @@ use Prim.Native.Nat.{ℕ}
 use mathlib.Core.Path.{_≡_}
 use mathlib.Core.Bool.{Bool, true, _&&_}
 use mathlib.Core.List.{List}
-use Rattle.tables.specs.Fronts.{front}
 use Rattle.tables.specs.Lent.{Lent, componentsIn, propertiesIn, parametersIn, treeIn, nameIn}
 use Rattle.tables.specs.Trees.{propertiesOf}
-use Rattle.tables.specs.declared.PropertyRow.{PropertyRow}
-use Rattle.tables.specs.declared.ParameterRow.{ParameterRow}
-use Rattle.walking.specs.Walk.{endOf, heldBefore, windowFirst, Reached}
+use Rattle.walking.specs.Walk.{endOf, Reached}
 use Rattle.walking.specs.declared.Window.{Window}
 use Rattle.comparing.specs.Pieces.{sameName, sameParameters}
 use Rattle.matching.specs.Alike.{alike, samePropertyBy, sameTreesBy}
-use Rattle.matching.specs.declared.Held.{Held}
 use Rattle.twins.specs.declared.Spot.{Spot}
 use Rattle.twins.specs.declared.Match.{Match}
 
@@ -48,8 +44,3 @@ pub record Matched (values : List ℕ → List ℕ → Bool) (b : Lent) (level o
   pub alike : m .same ≡ sameTreesBy values sameParameters (treeIn b level one) (treeIn b level other)
   pub behind-one : m .same ≡ true → Behind b one (m .first)
   pub behind-other : m .same ≡ true → Behind b other (m .second)
-
--- the first property that belongs to no component before the row, and the first parameter that belongs to no property before that one
-pub record Fronts (properties : List PropertyRow) (parameters : List ParameterRow) (row : ℕ) (held : Held) : Type 0 where
-  pub property : held .property ≡ windowFirst properties row
-  pub first : held .first ≡ front (heldBefore (held .property)) parameters

@@ -1,21 +1,22 @@
 // The twin test: whether two component rows stand for the same tree, and the looser one, which compares values as texts.
 ghost use mathlib.Core.Path.{_≡_};
 ghost use mathlib.Core.Bool.{true, false};
-ghost use Prim.Native.Nat.{_<_};
+ghost use mathlib.Core.List.{List};
+ghost use Prim.Native.Nat.{_≤_, _<_};
 ghost use lib.ListN.{length};
 ghost use Rattle.octets.specs.Choice.{pick};
 ghost use Rattle.octets.specs.Answers.{badTable};
 ghost use Rattle.tables.specs.Rows.{propertySize, propertyAt};
 ghost use Rattle.tables.specs.Lent.{lent, componentsIn, propertiesIn, parametersIn};
 ghost use Rattle.tables.specs.Trees.{propertiesOf};
-ghost use Rattle.walking.specs.Walk.{ownedBy, stands, inOrder, Reached, Holds};
-ghost use Rattle.walking.specs.Places.{RisingParameters, Ruled, Arrived};
+ghost use Rattle.tables.specs.declared.ParameterRow.{ParameterRow};
+ghost use Rattle.walking.specs.Walk.{ownedBy, stands, windowFirst, inOrder, Reached, Holds};
+ghost use Rattle.walking.specs.Places.{Ruled, Arrived};
 ghost use Rattle.comparing.specs.Pieces.{sameParameters};
 ghost use Rattle.matching.specs.Alike.{alike, samePropertyBy};
 ghost use Rattle.matching.specs.Tests.{valuesBy};
 ghost use Rattle.twins.specs.Answers.{compared, rowsAlikeBy, comparedBy, twinsAnswer, looseTwinsAnswer};
-ghost use Rattle.twins.specs.Matched.{atRow, spotIn, Fronts, Headed, Matched};
-use matching::Held;
+ghost use Rattle.twins.specs.Matched.{atRow, spotIn, Headed, Matched};
 use matching::Side;
 use matching::Values;
 use tables::Found;
@@ -191,46 +192,33 @@ fn is_own(properties: &[u32], property: usize, row: usize) -> bool
     tables::owner_at(properties, property) as usize == row
 }
 
-// The first property that belongs to no earlier component, with where its parameters stand.
-fn front_of(properties: &[u32], parameters: &[u32], spot: Spot) -> Held
-    requires { ⌜ Reached (propertiesIn (now properties)) (parametersIn (now parameters)) (spot .cursor) (spot .row) ⌝ }
-    ensures { λ r. ⌜ Fronts (propertiesIn (now (properties .entry))) (parametersIn (now (parameters .entry))) (spot .row) r ⌝ }
-{
-    let cursor = spot.cursor;
-    let property = walking::first_from(properties, cursor.property, spot.row);
-    Held {
-        property,
-        first: walking::first_held(parameters, cursor.parameter, property),
-    }
-}
-
-// Whether the first properties of two components agree: it tells most of them apart at once. A property behind those of all earlier components that
-// belongs to a component is its first, whatever the order of the table.
+// Whether the first properties of two components agree in key and value: it tells most of them apart at once. A property behind those of all earlier
+// components that belongs to a component is its first, whatever the order of the table.
 pub fn same_front(
     values: Values,
     text: &[u8],
     properties: &[u32],
-    parameters: &[u32],
     first: Spot,
     second: Spot,
 ) -> bool
-    requires { ⌜ RisingParameters (parametersIn (now parameters)) ⌝ }
-    requires { ⌜ Reached (propertiesIn (now properties)) (parametersIn (now parameters)) (first .cursor) (first .row) ⌝ }
-    requires { ⌜ Reached (propertiesIn (now properties)) (parametersIn (now parameters)) (second .cursor) (second .row) ⌝ }
-    ensures { λ r. ⌜ (r ≡ false → alike (samePropertyBy (valuesBy values) sameParameters)
-        (propertiesOf (now (text .entry)) (propertiesIn (now (properties .entry))) (parametersIn (now (parameters .entry))) (first .row))
-        (propertiesOf (now (text .entry)) (propertiesIn (now (properties .entry))) (parametersIn (now (parameters .entry))) (second .row))
+    requires { ⌜ first .cursor .property ≤ windowFirst (propertiesIn (now properties)) (first .row) ⌝ }
+    requires { ⌜ second .cursor .property ≤ windowFirst (propertiesIn (now properties)) (second .row) ⌝ }
+    ensures { λ r. ⌜ (r ≡ false → (parameters : List ParameterRow) → alike (samePropertyBy (valuesBy values) sameParameters)
+        (propertiesOf (now (text .entry)) (propertiesIn (now (properties .entry))) parameters (first .row))
+        (propertiesOf (now (text .entry)) (propertiesIn (now (properties .entry))) parameters (second .row))
         ≡ false) ⌝ }
 {
-    let a = front_of(properties, parameters, first);
-    if !is_own(properties, a.property, first.row) {
+    let a = walking::first_from(properties, first.cursor.property, first.row);
+    if !is_own(properties, a, first.row) {
         return true;
     }
-    let b = front_of(properties, parameters, second);
-    if !is_own(properties, b.property, second.row) {
+    let b = walking::first_from(properties, second.cursor.property, second.row);
+    if !is_own(properties, b, second.row) {
         return true;
     }
-    matching::same_property(values, text, properties, parameters, a, b)
+    let one = tables::property_at(properties, a);
+    let other = tables::property_at(properties, b);
+    matching::same_key_and_value(values, text, one, other)
 }
 
 // Whether the trees of two rows are alike, in tables that meet the table rule. A caller that compares many pairs checks the tables once (checking::first_broken,
@@ -250,7 +238,7 @@ pub fn same_trees(
     requires { ⌜ Arrived (lent (now text) (now components) (now properties) (now parameters)) (second .row) ordered (second .cursor) ⌝ }
     ensures { λ r. ⌜ r ≡ rowsAlikeBy (valuesBy values) (lent (now (text .entry)) (now (components .entry)) (now (properties .entry)) (now (parameters .entry))) (first .row) (second .row) ⌝ }
 {
-    if !same_front(values, text, properties, parameters, first, second) {
+    if !same_front(values, text, properties, first, second) {
         return false;
     }
     if !walking::same_size(components, first.row, second.row) {

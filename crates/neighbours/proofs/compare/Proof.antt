@@ -5,6 +5,7 @@ use mathlib.Core.Path.{sym, ap, _∙_}
 use mathlib.Core.Bool.{Bool}
 use Rattle.octets.specs.Choice.{pick}
 use Rattle.tables.specs.Lent.{Lent, lent}
+use Rattle.walking.proofs.Along.{params}
 use Rattle.comparing.specs.Pieces.{sameValue}
 use Rattle.twins.specs.Answers.{levels}
 use Rattle.twins.proofs.Pairs.{properties-differ}
@@ -21,14 +22,15 @@ abbrev tables-of : tie.Start → Lent
 tables-of s = lent (s .args .text .now) (s .args .components .now) (s .args .properties .now) (s .args .parameters .now)
 
 same-front-requires : tie.Need-same-front-requires
-same-front-requires c κs = let s = c .before .before .before .before in (s .pre .0 .parameters, (s .pre .1 .0 .reached, s .pre .1 .1 .reached))
+same-front-requires c κs = let s = c .before .before .before .before in (s .pre .1 .0 .reached .property, s .pre .1 .1 .reached .property)
 
 returns : tie.Need-returns
 returns c =
     let f = c .before in
     let s = start-at f in (
       sym (ap (λ (t : Bool). pick t 1 0)
-          (properties-differ sameValue (tables-of s) levels (s .args .before .row) (s .args .next .row) (f .same-front .ensures (not-true _ (c .if1 .taken))))),
+          (properties-differ sameValue (tables-of s) levels (s .args .before .row) (s .args .next .row)
+          (f .same-front .ensures (not-true _ (c .if1 .taken)) (params (tables-of s))))),
       s .pre .1 .0 .order,
     )
 

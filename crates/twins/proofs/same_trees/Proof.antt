@@ -8,7 +8,7 @@ use borrow.Author.Tests.{not-true}
 use Rattle.octets.specs.Answers.{deepest}
 use Rattle.tables.specs.Lent.{Lent, lent}
 use Rattle.tables.proofs.Nested.{depthOf, rows-nested}
-use Rattle.walking.proofs.Along.{comps}
+use Rattle.walking.proofs.Along.{comps, params}
 use Rattle.walking.proofs.Rows.{row-there}
 use Rattle.matching.specs.Tests.{valuesBy}
 use Rattle.twins.proofs.Pairs.{properties-differ, sizes-differ}
@@ -26,13 +26,14 @@ deep : (s : tie.Start) (row : ℕ) → row < length (comps (tables-of s)) → de
 deep s row h = omega (arith, rows-nested (comps (tables-of s)) (length (s .args .text .now)) (s .pre .0 .components) row h .some)
 
 same-front-requires : tie.Need-same-front-requires
-same-front-requires c κs = let s = c .before .before .before .before in (s .pre .0 .parameters, (s .pre .1 .0 .reached, s .pre .1 .1 .reached))
+same-front-requires c κs = let s = c .before .before .before .before in (s .pre .1 .0 .reached .property, s .pre .1 .1 .reached .property)
 
 returns : tie.Need-returns
 returns c =
     let f = c .before in
     let s = start-at f in
-    sym (properties-differ (valuesBy (s .args .values)) (tables-of s) 63 (s .args .first .row) (s .args .second .row) (f .same-front .ensures (not-true _ (c .if1 .taken))))
+    sym (properties-differ (valuesBy (s .args .values)) (tables-of s) 63 (s .args .first .row) (s .args .second .row)
+    (f .same-front .ensures (not-true _ (c .if1 .taken)) (params (tables-of s))))
 
 same-size-requires : tie.Need-same-size-requires
 same-size-requires c κs =
