@@ -51,8 +51,9 @@ module _ (properties : List PropertyRow) (parameters : List ParameterRow) where
           held
           ∙ wider (heldBefore (cursor .property)) (heldBefore p) (held-wider (cursor .property) p (omega arith)) (cursor .parameter) parameters (so .parameter)
 
-      next : Reached properties parameters (record { property = p; parameter = q }) row
-      next = record { property = omega (arith, first-is); parameter = omega (arith, held-is) }
+      -- the cursor there
+      pub comes-to : Reached properties parameters (record { property = p; parameter = q }) row
+      comes-to = record { property = omega (arith, first-is); parameter = omega (arith, held-is) }
 
       pub holds-all : Holds components properties parameters row
           (record { first = 0; last = length properties; parameter = 0; end = end; cursor = record { property = p; parameter = q } })
@@ -64,7 +65,7 @@ module _ (properties : List PropertyRow) (parameters : List ParameterRow) where
             behind = λ i d h l. absurd (omega arith);
             parameter = zero-le;
             end = ended;
-            reached = next;
+            reached = comes-to;
           }
 
       pub holds-window : {last : ℕ} → inOrder components properties ≡ true → row < length components
@@ -81,5 +82,5 @@ module _ (properties : List PropertyRow) (parameters : List ParameterRow) where
             behind = λ i d l k o. omega (arith, complete components properties ordered row i d h k o .last);
             parameter = omega (arith, held-is);
             end = ended;
-            reached = next;
+            reached = comes-to;
           }
