@@ -1,4 +1,4 @@
--- Readings by example, held against document 01, "What each number returns and leaves". Assumes nothing.
+-- Readings by example, held against document 01, "What each number returns and leaves", and document 02, request 6. Assumes nothing.
 use Prim.Native.Nat.{ℕ}
 use mathlib.Core.Path.{_≡_, refl}
 use mathlib.Core.List.{List, [], _∷_, _++_, map}
@@ -13,8 +13,8 @@ use Rattle.tables.specs.Lent.{Lent, lent}
 use Rattle.tables.specs.Rows.{flat}
 use Rattle.nesting.specs.Steps.{readLines, outcomeOf}
 use Rattle.nesting.specs.declared.Refusal.{Refusal}
-use Rattle.reading.specs.Answers.{numberOf, placeOf, readingOf, textAfter}
-use Rattle.reading.specs.Lent.{readInto, left}
+use Rattle.reading.specs.Answers.{numberOf, placeOf, readingOf, measuringOf, fillingOf, textAfter}
+use Rattle.reading.specs.Lent.{readInto, left, fillFrom, leftFilled}
 use Rattle.reading.specs.declared.Reading.{Reading}
 
 -- "3 BadBegin, 4 TooDeep, 5 BadEnd, 6 Outside, 8 Unclosed, 9 NoComponent"
@@ -68,3 +68,32 @@ done-leaves : left (bytes "BEGIN:A\nEND:A\n") (before fifteen)
     ≡ lent (bytes "BEGIN:A\nEND:A\n" ++ 34 ∷ []) (4294967295 ∷ 1 ∷ 6 ∷ 1 ∷ 14 ∷ []) [] []
 unfolding bytes unfoldedAfter runs.run sameBytes startsWord linesAfter lineOf flat readLines outcomeOf readingOf textAfter
 done-leaves = refl
+
+-- ---- measure first, fill later
+
+-- "a measuring call, which unfolds and returns the counts": no row is lent, and 10 is never told; 2 and 5 are
+measures : map (λ (feed : List ℕ). measuringOf feed 15) (bytes "BEGIN:A\nEND\n :A\n" ∷ bytes "BEGIN:ABCDEFGHIJ\n" ∷ bytes "END:A\n" ∷ [])
+    ≡ six 0 0 14 1 0 0 ∷ six 2 0 17 0 0 0 ∷ six 5 0 6 0 0 0 ∷ []
+unfolding bytes unfoldedAfter runs.run sameBytes startsWord linesAfter lineOf readLines outcomeOf measuringOf
+measures = refl
+
+-- "a filling call on the unfolded text": a text that still has a fold is not unfolded again; its blank starts a line without a key
+still-folded : fillFrom (before (bytes "BEGIN:A\n B\nEND:AB\n")) ≡ six 7 8 18 0 0 0
+unfolding bytes runs.run sameBytes startsWord linesAfter lineOf readLines outcomeOf fillingOf
+still-folded = refl
+
+-- what stands behind the first `length` bytes is no part of the text: lent with them, it is a line outside
+with-its-tail : fillFrom (before (bytes "BEGIN:A\nEND:A\n" ++ 34 ∷ [])) ≡ six 6 14 15 0 0 0
+unfolding bytes runs.run sameBytes startsWord linesAfter lineOf readLines outcomeOf fillingOf
+with-its-tail = refl
+
+-- filling "leaves the text unchanged always"; on Done the first rows only, on 10 no table word changes
+fills : (fillFrom (before (bytes "BEGIN:A\nEND:A\n")) ≡ six 0 0 14 1 0 0)
+    × (leftFilled (before (bytes "BEGIN:A\nEND:A\n")) ≡ lent (bytes "BEGIN:A\nEND:A\n") (4294967295 ∷ 1 ∷ 6 ∷ 1 ∷ 14 ∷ []) [] [])
+unfolding bytes runs.run sameBytes startsWord linesAfter lineOf flat readLines outcomeOf fillingOf
+fills = (refl, refl)
+
+fills-not : (fillFrom (before (bytes "BEGIN:A\nEND:A\nBEGIN:A\nEND:A\n")) ≡ six 10 0 28 2 0 0)
+    × (leftFilled (before (bytes "BEGIN:A\nEND:A\nBEGIN:A\nEND:A\n")) ≡ before (bytes "BEGIN:A\nEND:A\nBEGIN:A\nEND:A\n"))
+unfolding bytes runs.run sameBytes startsWord linesAfter lineOf flat readLines outcomeOf fillingOf
+fills-not = (refl, refl)

@@ -8,31 +8,35 @@ use native.Mathlib.Omega.{arith}
 use lib.ListN.{length, take, drop}
 use lib.Seq.{take-append-seam}
 use lib.Dec.{eqb, leb}
-use borrow.Author.Tests.{le-leb, lt-leb, leb-true}
+use borrow.Author.Tests.{le-leb, lt-leb, leb-true, ne-eqb, eqb-true, eqb-false}
 use Rattle.octets.specs.Choice.{pick}
 use Rattle.octets.specs.Laid.{laid}
 use Rattle.octets.proofs.Bools.{both}
 use Rattle.octets.proofs.Laid.{whole, length-laid}
-use Rattle.octets.specs.Answers.{longest, done, noRoom, noTextRoom, tooLong}
+use Rattle.octets.specs.Answers.{longest, done, noRoom, noTextRoom, tooLong, output}
+use Rattle.octets.specs.declared.Output.{Output}
 use Rattle.unfolding.specs.Unfold.{unfolded}
+use Rattle.unfolding.proofs.Laws.{length-unfolded}
 use Rattle.lines.specs.declared.Fault.the-variants.{ReservedKey, EmptyKey, StrayByte}
 use Rattle.lines.specs.Rule.{lineOf}
 use Rattle.lines.specs.Sound.{Sound}
 use Rattle.lines.proofs.Sound.{sound}
-use Rattle.tables.specs.Rows.{flat, componentSize, propertySize}
+use Rattle.tables.specs.Rows.{flat}
 use Rattle.tables.proofs.Laws.{Shape, component-shape, property-shape, parameter-shape}
 use Rattle.nesting.specs.Steps.{State, Run, finished, stopped, runOf, endedAt, judged, outcomeOf, countsOf}
 use Rattle.nesting.specs.Held.{putRows, Tabled}
 use Rattle.nesting.specs.declared.Counts.{Counts}
 use Rattle.nesting.specs.declared.Refusal.{Refusal}
+use Rattle.nesting.specs.declared.Outcome.{Outcome}
 use Rattle.nesting.specs.declared.Outcome.the-variants.{Read, Refused}
 use Rattle.nesting.proofs.Tables.{all-put}
 use Rattle.nesting.proofs.Checks.{fault-of}
 use Rattle.nesting.proofs.Lines.{RefusedAt, refused-line}
-use Rattle.reading.specs.declared.Reading.{Reading}
-use Rattle.reading.specs.Answers.{numberOf, placeOf, told, refusal, roomFor, fits, readText, readingOf, laidWhole, textAfter, Filled}
 use Rattle.tables.specs.Lent.{Lent, lent}
-use Rattle.reading.specs.Lent.{roomIn, readInto, left}
+use Rattle.reading.specs.declared.Reading.{Reading}
+use Rattle.reading.specs.Answers.{numberOf, placeOf, told, countsIn, refusal, fits, answered, byRoom, measureText, readText, unfoldAnswer, onceUnfolded, readingOf, measuringOf, fillingOf, laidWhole, textAfter, rowsIn}
+use Rattle.reading.specs.Lent.{roomIn, withRows, readInto, left, fillFrom, leftFilled}
+use Rattle.reading.specs.InTurn.{measureInto, leftMeasured, lentOn, readInTurn, leftInTurn}
 
 -- every refusal of a line has a number of its own, which is not Done
 pub refusal-number : (r : Refusal) → eqb (numberOf r) done ≡ false
@@ -79,41 +83,39 @@ module _ {A : Type 0} {size : ℕ} {words : A → List ℕ} {from : List ℕ →
   filled rows n old new e t held =
       held ∙ all-put size words shape rows old (room-for size (length rows) (length old) (shape .some) (rw e at (leb-true n (length old / size) t)))
 
--- a refusal leaves the three tables as they were
-pub untouched : (text : List ℕ) (r : Reading) (c p q : List ℕ) → eqb (r .answer) done ≡ false → Filled text r c p q c p q
-untouched text r c p q e = record { components = rw e; properties = rw e; parameters = rw e }
+-- ---- a text by itself, and with tables
 
--- the same of an equal answer, and of an equal text
-pub filled-by : {text text′ : List ℕ} {r r′ : Reading} {c p q c′ p′ q′ : List ℕ} → text ≡ text′ → r ≡ r′ → Filled text r c p q c′ p′ q′ → Filled text′ r′ c p q c′ p′ q′
-filled-by {c = c} {p} {q} {c′} {p′} {q′} e f w = rw (sym e, sym f) w
+module _ (text : List ℕ) where
+  pub refused-text : (r : Refusal) (from : ℕ) → outcomeOf text ≡ Refused r from → refusal (numberOf r) (placeOf r from) (length text) ≡ measureText text
+  refused-text r from e = rw e
 
-module _ (text c p q : List ℕ) (counts : Counts) (e : outcomeOf text ≡ Read counts) where
-  abbrev room : Counts
-  room = roomFor (length c) (length p) (length q)
+  pub counted-text : (counts : Counts) → outcomeOf text ≡ Read counts → told done 0 (length text) counts ≡ measureText text
+  counted-text counts e = rw e
 
-  pub answers : (t : Bool) → fits counts room ≡ t → readText text room ≡ told (pick t done noRoom) 0 (length text) counts
-  answers t f = rw (e, f)
+  -- all of the text is measured
+  pub measured-length : measureText text .length ≡ length text
+  measured-length = go (outcomeOf text)
+    where
+      go : (o : Outcome) → answered o (length text) (λ counts. done) .length ≡ length text
+      go (Refused r from) = refl
+      go (Read counts) = refl
 
-  pub fills : fits counts room ≡ true → (c′ p′ q′ : List ℕ) → ((s : State) → runOf text ≡ finished s → Tabled s c p q c′ p′ q′)
-      → Filled text (told done 0 (length text) counts) c p q c′ p′ q′
-  fills f c′ p′ q′ tabled =
-      let w = read-to-end text counts e in
-      let s = w .state in
-      let t = tabled s (w .run) in
-      let n = w .counts in
-      let fc = both (leb (counts .components) (length c / componentSize)) _ f .0 in
-      let fpq = both (leb (counts .components) (length c / componentSize)) _ f .1 in
-      let fp = both (leb (counts .properties) (length p / propertySize)) _ fpq .0 in
-      let fq = both (leb (counts .properties) (length p / propertySize)) _ fpq .1 in
-      record {
-        components = filled component-shape (s .components) (counts .components) c c′ (ap (λ (k : Counts). k .components) n) fc (t .components) ∙ rw (w .run);
-        properties = filled property-shape (s .properties) (counts .properties) p p′ (ap (λ (k : Counts). k .properties) n) fp (t .properties) ∙ rw (w .run);
-        parameters = filled parameter-shape (s .parameters) (counts .parameters) q q′ (ap (λ (k : Counts). k .parameters) n) fq (t .parameters) ∙ rw (w .run);
-      }
+  -- what measuring refuses is refused with tables too
+  pub refused-with : (room : Counts) → (measureText text .answer ≡ done → ⊥) → measureText text ≡ readText text room
+  refused-with room = go (outcomeOf text)
+    where
+      go : (o : Outcome) → (answered o (length text) (λ counts. done) .answer ≡ done → ⊥)
+          → answered o (length text) (λ counts. done) ≡ answered o (length text) (byRoom room)
+      go (Refused r from) f = refl
+      go (Read counts) f = absurd (f refl)
 
-pub refused-text : (text : List ℕ) (room : Counts) (r : Refusal) (from : ℕ) → outcomeOf text ≡ Refused r from
-    → readText text room ≡ refusal (numberOf r) (placeOf r from) (length text)
-refused-text text room r from e = rw e
+  -- what it counts has these counts
+  pub was-counted : measureText text .answer ≡ done → outcomeOf text ≡ Read (countsIn (measureText text))
+  was-counted e = go (outcomeOf text) refl e
+    where
+      go : (o : Outcome) → outcomeOf text ≡ o → answered o (length text) (λ counts. done) .answer ≡ done → outcomeOf text ≡ Read (countsIn (measureText text))
+      go (Refused r from) f e = absurd (eqb-false (numberOf r) done (refusal-number r) e)
+      go (Read counts) f e = f ∙ rw f
 
 -- ---- the place of a refusal
 
@@ -156,7 +158,7 @@ place-inside text r from e = go (runOf text) refl e
         let there : start ≡ from = cc in
         line-place text r from (refused-line text r from (rw (same, there) at f))
 
--- ---- the text
+-- ---- unfolding
 
 pub text-fits : (bytes old : List ℕ) → length bytes ≤ length old → laid bytes old ≡ laidWhole bytes old
 text-fits bytes old h = rw (le-leb (length bytes) (length old) h)
@@ -164,41 +166,223 @@ text-fits bytes old h = rw (le-leb (length bytes) (length old) h)
 pub text-stays : (bytes old : List ℕ) → length old < length bytes → old ≡ laidWhole bytes old
 text-stays bytes old h = rw (lt-leb (length bytes) (length old) h)
 
-pub length-whole : (bytes old : List ℕ) → length (laidWhole bytes old) ≡ length old
+length-whole : (bytes old : List ℕ) → length (laidWhole bytes old) ≡ length old
 length-whole bytes old = go (leb (length bytes) (length old))
   where
     go : (t : Bool) → length (pick t (laid bytes old) old) ≡ length old
     go true = length-laid bytes old
     go false = refl
 
+module _ (feed old : List ℕ) where
+  pub too-long : longest < length feed → (output tooLong 0 0 ≡ unfoldAnswer feed (length old)) × (old ≡ textAfter feed old)
+  unfolding textAfter
+  too-long h = (rw (lt-leb (length feed) longest h), rw (lt-leb (length feed) longest h))
+
+  -- a feed that is short enough was unfolded where it fits
+  module _ (short : length feed ≤ longest) (new : List ℕ) (n : ℕ) (count : n ≡ length (unfolded feed)) (is : new ≡ laidWhole (unfolded feed) old) where
+    text-left : new ≡ textAfter feed old
+    unfolding textAfter
+    text-left = is ∙ rw (le-leb (length feed) longest short)
+
+    as-long : length new ≡ length old
+    as-long = ap length is ∙ length-whole (unfolded feed) old
+
+    pub no-room : length new < n → (output noTextRoom 0 n ≡ unfoldAnswer feed (length old)) × (new ≡ textAfter feed old)
+    no-room h = (rw (le-leb (length feed) longest short, lt-leb (length (unfolded feed)) (length old) (rw (as-long, count) at h), count), text-left)
+
+    pub all-there : n ≤ length new → (output done 0 n ≡ unfoldAnswer feed (length old)) × (new ≡ textAfter feed old)
+    all-there h = (rw (le-leb (length feed) longest short, le-leb (length (unfolded feed)) (length old) (rw (as-long, count) at h), count), text-left)
+
+-- a feed that unfolds to n bytes, and has room for them
+pub record Unfolds (feed : List ℕ) (room n : ℕ) : Type 0 where
+  pub short : length feed ≤ longest
+  pub fits : length (unfolded feed) ≤ room
+  pub size : n ≡ length (unfolded feed)
+
+module _ (feed : List ℕ) (room : ℕ) where
+  -- a refusal of unfolding is one of the reading, whatever the text would answer
+  pub not-unfolded : (x : Reading) {u : Output} → u ≡ unfoldAnswer feed room → (u .answer ≡ done → ⊥) → refusal (u .answer) (u .place) (u .length) ≡ onceUnfolded feed room x
+  not-unfolded x e f = rw e (go (leb (length feed) longest) (leb (length (unfolded feed)) room) (rw e at f))
+    where
+      size : ℕ
+      size = length (unfolded feed)
+
+      go : (t v : Bool) →
+          let u = pick t (pick v (output done 0 size) (output noTextRoom 0 size)) (output tooLong 0 0) in
+          (u .answer ≡ done → ⊥) → refusal (u .answer) (u .place) (u .length) ≡ pick t (pick v x (refusal noTextRoom 0 size)) (refusal tooLong 0 0)
+      go true true f = absurd (f refl)
+      go true false f = refl
+      go false v f = refl
+
+  pub was-unfolded : {u : Output} → u ≡ unfoldAnswer feed room → u .answer ≡ done → Unfolds feed room (u .length)
+  was-unfolded {u} e f = rw e (go (leb (length feed) longest) refl (leb (length (unfolded feed)) room) refl (rw e at f))
+    where
+      size : ℕ
+      size = length (unfolded feed)
+
+      go : (t : Bool) → leb (length feed) longest ≡ t → (v : Bool) → leb size room ≡ v →
+          let u = pick t (pick v (output done 0 size) (output noTextRoom 0 size)) (output tooLong 0 0) in
+          u .answer ≡ done → Unfolds feed room (u .length)
+      go true g true h f = record { short = leb-true _ _ g; fits = leb-true _ _ h; size = refl }
+      go true g false h f = absurd (omega arith)
+      go false g v h f = absurd (omega arith)
+
+  pub text-answers : (x : Reading) {n : ℕ} → Unfolds feed room n → x ≡ onceUnfolded feed room x
+  text-answers x w = rw (le-leb _ _ (w .short), le-leb _ _ (w .fits))
+
+length-after : (feed text : List ℕ) → length (textAfter feed text) ≡ length text
+unfolding textAfter
+length-after feed text = go (leb (length feed) longest)
+  where
+    go : (t : Bool) → length (pick t (laidWhole (unfolded feed) text) text) ≡ length text
+    go true = length-whole (unfolded feed) text
+    go false = refl
+
+-- the unfolded feed stands at the front of the text, which has room for it, and is what is lent on
+pub lent-fits : (feed text : List ℕ) {new : List ℕ} {n : ℕ} → Unfolds feed (length text) n → new ≡ textAfter feed text → n ≤ length new
+lent-fits feed text w e = omega (arith, w .fits, w .size, ap length e, length-after feed text)
+
+pub lent-text : (feed text : List ℕ) {new : List ℕ} {n k : ℕ} → Unfolds feed (length text) n → k ≡ n → new ≡ textAfter feed text → take k new ≡ unfolded feed
+unfolding textAfter
+lent-text feed text {new} {n} {k} w is e =
+    let l : new ≡ unfolded feed ++ drop (length (unfolded feed)) text =
+    e ∙ rw (le-leb _ _ (w .short)) (sym (text-fits (unfolded feed) text (w .fits)) ∙ whole (unfolded feed) text (w .fits)) in
+    rw (is, w .size, l) (take-append-seam (unfolded feed) (drop (length (unfolded feed)) text))
+
+-- ---- filling
+
+module _ (b : Lent) where
+  -- a refusal leaves the three tables as they were
+  pub unfilled : {r : Reading} → r ≡ fillFrom b → (r .answer ≡ done → ⊥) → b ≡ leftFilled b
+  unfilled {r} e f = let n : eqb (fillFrom b .answer) done ≡ false = rw (← e) (ne-eqb (r .answer) done f) in rw n
+
+  pub text-too-long : longest < length (b .text) → refusal tooLong 0 0 ≡ fillFrom b
+  unfolding fillingOf
+  text-too-long h = rw (lt-leb (length (b .text)) longest h)
+
+  module _ (short : length (b .text) ≤ longest) where
+    pub fill-reads : readText (b .text) (roomIn b) ≡ fillFrom b
+    unfolding fillingOf
+    fill-reads = rw (le-leb (length (b .text)) longest short)
+
+    -- a text that was measured: its counts fit the tables, or they do not
+    module _ (m : Reading) (is : m ≡ measureText (b .text)) (e : m .answer ≡ done) (t : Bool) (f : fits (countsIn m) (roomIn b) ≡ t) where
+      pub room-answers : told (pick t done noRoom) (m .place) (m .length) (countsIn m) ≡ fillFrom b
+      room-answers = go (outcomeOf (b .text)) refl is ∙ fill-reads
+        where
+          go : (o : Outcome) → outcomeOf (b .text) ≡ o → m ≡ answered o (length (b .text)) (λ counts. done)
+              → told (pick t done noRoom) (m .place) (m .length) (countsIn m) ≡ readText (b .text) (roomIn b)
+          go (Refused r from) g is = absurd (eqb-false (numberOf r) done (refusal-number r) (rw is at e))
+          go (Read counts) g is = let h : fits counts (roomIn b) ≡ t = rw is at f in rw (is, g, h)
+
+    module _ (m : Reading) (is : m ≡ measureText (b .text)) (e : m .answer ≡ done) (f : fits (countsIn m) (roomIn b) ≡ true) where
+      pub done-answers : m ≡ fillFrom b
+      done-answers = let d : told done (m .place) (m .length) (countsIn m) ≡ m = rw (← e) in sym d ∙ room-answers m is e true f
+
+      pub fills : (c p q : List ℕ) → ((s : State) → runOf (b .text) ≡ finished s → Tabled s (b .components) (b .properties) (b .parameters) c p q)
+          → lent (b .text) c p q ≡ leftFilled b
+      fills c p q tabled =
+          let w = read-to-end (b .text) (countsIn m) (rw is (was-counted (b .text) (rw is at e))) in
+          let s = w .state in
+          let t = tabled s (w .run) in
+          let n = w .counts in
+          let fc = both (leb (m .components) (roomIn b .components)) _ f .0 in
+          let fpq = both (leb (m .components) (roomIn b .components)) _ f .1 in
+          let fp = both (leb (m .properties) (roomIn b .properties)) _ fpq .0 in
+          let fq = both (leb (m .properties) (roomIn b .properties)) _ fpq .1 in
+          let d : eqb (fillFrom b .answer) done ≡ true = rw (← room-answers m is e true f) in
+          rw (
+            d,
+            w .run,
+            filled component-shape (s .components) (m .components) (b .components) c (ap (λ (k : Counts). k .components) n) fc (t .components),
+            filled property-shape (s .properties) (m .properties) (b .properties) p (ap (λ (k : Counts). k .properties) n) fp (t .properties),
+            filled parameter-shape (s .parameters) (m .parameters) (b .parameters) q (ap (λ (k : Counts). k .parameters) n) fq (t .parameters),
+          )
+
 -- ---- all four buffers
 
 module _ (feed : List ℕ) (b : Lent) where
-  pub four : {r : Reading} {t c p q : List ℕ} → r ≡ readInto feed b → t ≡ textAfter feed (b .text)
-      → Filled (unfolded feed) r (b .components) (b .properties) (b .parameters) c p q → lent t c p q ≡ left feed b
-  four e f w = let v = filled-by refl e w in rw (f, v .components, v .properties, v .parameters)
+  -- where the reading is no Done, only the text can have changed
+  pub unread : {r : Reading} {t : List ℕ} → r ≡ readInto feed b → (r .answer ≡ done → ⊥) → t ≡ textAfter feed (b .text)
+      → lent t (b .components) (b .properties) (b .parameters) ≡ left feed b
+  unread {r} e f g = let n : eqb (readInto feed b .answer) done ≡ false = rw (← e) (ne-eqb (r .answer) done f) in rw (n, g)
 
-  pub too-long : longest < length feed → (refusal tooLong 0 0 ≡ readInto feed b) × (b .text ≡ textAfter feed (b .text))
-  unfolding readingOf textAfter
-  too-long h = (rw (lt-leb (length feed) longest h), rw (lt-leb (length feed) longest h))
+  -- what unfolding refuses
+  pub unread-unfolded : {u : Output} {r : Reading} {t : List ℕ} → u ≡ unfoldAnswer feed (length (b .text)) → (u .answer ≡ done → ⊥)
+      → r ≡ refusal (u .answer) (u .place) (u .length) → t ≡ textAfter feed (b .text)
+      → (r ≡ readInto feed b) × (lent t (b .components) (b .properties) (b .parameters) ≡ left feed b)
+  unfolding readingOf
+  unread-unfolded e f g h =
+      let same = g ∙ not-unfolded feed (length (b .text)) (readText (unfolded feed) (roomIn b)) e f in
+      (same, unread same (rw g f) h)
 
-  module _ (short : length feed ≤ longest) where
-    pub text-after : laidWhole (unfolded feed) (b .text) ≡ textAfter feed (b .text)
-    unfolding textAfter
-    text-after = rw (le-leb (length feed) longest short)
+  -- filling from the unfolded text is reading
+  module _ {n : ℕ} (w : Unfolds feed (length (b .text)) n) where
+    abbrev text : Lent
+    text = lent (unfolded feed) (b .components) (b .properties) (b .parameters)
 
-    pub no-text-room : length (b .text) < length (unfolded feed) → refusal noTextRoom 0 (length (unfolded feed)) ≡ readInto feed b
+    short-text : length (unfolded feed) ≤ longest
+    short-text = omega (arith, w .short, length-unfolded feed)
+
+    fill-is-read : fillFrom text ≡ readInto feed b
     unfolding readingOf
-    no-text-room h = rw (le-leb (length feed) longest short, lt-leb (length (unfolded feed)) (length (b .text)) h)
+    fill-is-read = sym (fill-reads text short-text) ∙ text-answers feed (length (b .text)) (readText (unfolded feed) (roomIn b)) w
 
-    pub reads-text : length (unfolded feed) ≤ length (b .text) → readText (unfolded feed) (roomIn b) ≡ readInto feed b
-    unfolding readingOf
-    reads-text h = rw (le-leb (length feed) longest short, le-leb (length (unfolded feed)) (length (b .text)) h)
+    pub read-by-filling : {r : Reading} {part t c p q : List ℕ} → part ≡ unfolded feed → t ≡ textAfter feed (b .text)
+        → r ≡ fillFrom (lent part (b .components) (b .properties) (b .parameters))
+        → lent part c p q ≡ leftFilled (lent part (b .components) (b .properties) (b .parameters))
+        → (r ≡ readInto feed b) × (lent t c p q ≡ left feed b)
+    read-by-filling {t = t} {c} {p} {q} e f g h =
+        let l : lent (unfolded feed) c p q ≡ leftFilled text = rw e at h in
+        let is : lent t c p q ≡ withRows (rowsIn (unfolded feed)) (fillFrom text) (textAfter feed (b .text)) b =
+        rw (f, ap (λ (x : Lent). x .components) l, ap (λ (x : Lent). x .properties) l, ap (λ (x : Lent). x .parameters) l) in
+        (rw e at g ∙ fill-is-read, is ∙ rw fill-is-read)
 
--- the unfolded feed is what is lent to the reading of the text
-pub lent-text : (feed text new : List ℕ) (n : ℕ) → n ≡ length (unfolded feed) → length (unfolded feed) ≤ length text → new ≡ laidWhole (unfolded feed) text
-    → take (n - 0) new ≡ unfolded feed
-lent-text feed text new n e h held =
-    let k : n - 0 ≡ length (unfolded feed) = omega arith in
-    let l : new ≡ unfolded feed ++ drop (length (unfolded feed)) text = held ∙ sym (text-fits (unfolded feed) text h) ∙ whole (unfolded feed) text h in
-    rw (k, l) (take-append-seam (unfolded feed) (drop (length (unfolded feed)) text))
+-- ---- the two calls in turn
+
+module _ (feed : List ℕ) (b : Lent) where
+  -- where measuring refuses, the one call does, with the same numbers, text and tables
+  pub refused-first : {m : Reading} {t : List ℕ} → m ≡ measureInto feed b → (m .answer ≡ done → ⊥) → t ≡ textAfter feed (b .text)
+      → (m ≡ readInto feed b) × (lent t (b .components) (b .properties) (b .parameters) ≡ left feed b)
+  unfolding measuringOf readingOf
+  refused-first {m} e f g = let same : m ≡ readInto feed b = e ∙ go (leb (length feed) longest) (leb (length (unfolded feed)) (length (b .text))) (rw e at f) in (same, unread feed b same f g)
+    where
+      by : Bool → Bool → Reading → Reading
+      by t u x = pick t (pick u x (refusal noTextRoom 0 (length (unfolded feed)))) (refusal tooLong 0 0)
+
+      go : (t u : Bool) → (by t u (measureText (unfolded feed)) .answer ≡ done → ⊥) → by t u (measureText (unfolded feed)) ≡ by t u (readText (unfolded feed) (roomIn b))
+      go true true f = refused-with (unfolded feed) (roomIn b) f
+      go true false f = refl
+      go false u f = refl
+
+  -- where it is Done, it told the unfolded length
+  pub measured : {m : Reading} → m ≡ measureInto feed b → m .answer ≡ done → Unfolds feed (length (b .text)) (m .length)
+  unfolding measuringOf
+  measured {m} e f = rw e (go (leb (length feed) longest) refl (leb (length (unfolded feed)) (length (b .text))) refl (rw e at f))
+    where
+      go : (t : Bool) → leb (length feed) longest ≡ t → (u : Bool) → leb (length (unfolded feed)) (length (b .text)) ≡ u →
+          let r = pick t (pick u (measureText (unfolded feed)) (refusal noTextRoom 0 (length (unfolded feed)))) (refusal tooLong 0 0) in
+          r .answer ≡ done → Unfolds feed (length (b .text)) (r .length)
+      go true g true h f = record { short = leb-true _ _ g; fits = leb-true _ _ h; size = measured-length (unfolded feed) }
+      go true g false h f = absurd (omega arith)
+      go false g u h f = absurd (omega arith)
+
+  -- and filling from that much of the text does what the one call does
+  pub filled-next : {m r : Reading} {k : ℕ} {t c p q : List ℕ} → m ≡ measureInto feed b → m .answer ≡ done → t ≡ textAfter feed (b .text) → k ≡ m .length
+      → r ≡ fillFrom (lent (take k t) (b .components) (b .properties) (b .parameters))
+      → lent (take k t) c p q ≡ leftFilled (lent (take k t) (b .components) (b .properties) (b .parameters))
+      → (r ≡ readInto feed b) × (lent t c p q ≡ left feed b)
+  filled-next e f g is h l = let w = measured e f in read-by-filling feed b w (lent-text feed (b .text) w is g) g h l
+
+  -- the one call is the two in turn
+  pub in-turn : (readInTurn feed b ≡ readInto feed b) × (leftInTurn feed b ≡ left feed b)
+  in-turn = go (eqb (measureInto feed b .answer) done) refl
+    where
+      tables : Lent
+      tables = leftFilled (lentOn (measureInto feed b) (leftMeasured feed b))
+
+      go : (t : Bool) → eqb (measureInto feed b .answer) done ≡ t
+          → (pick t (fillFrom (lentOn (measureInto feed b) (leftMeasured feed b))) (measureInto feed b) ≡ readInto feed b)
+          × (pick t (lent (textAfter feed (b .text)) (tables .components) (tables .properties) (tables .parameters)) (leftMeasured feed b) ≡ left feed b)
+      go true e = filled-next refl (eqb-true _ _ e) refl refl refl refl
+      go false e = refused-first refl (eqb-false _ _ e) refl

@@ -1,19 +1,19 @@
--- The six numbers of a reading, and what it leaves in the text and in the tables (document 01, "What each number returns and leaves";
--- document 02, request 2).
+-- The six numbers of a reading, in one call or in two, and what it leaves in the text and in the tables (document 01, "What each number returns
+-- and leaves"; document 02, requests 2 and 6).
 -- Assumes nothing.
 use Prim.Native.Nat.{ℕ, _+_, _/_}
-use mathlib.Core.Path.{_≡_}
 use mathlib.Core.Bool.{Bool, _&&_}
 use mathlib.Core.List.{List}
 use lib.ListN.{length}
 use lib.Dec.{eqb, leb}
 use Rattle.octets.specs.Choice.{pick}
 use Rattle.octets.specs.Laid.{laid}
-use Rattle.octets.specs.Answers.{longest, done, tooLong, noTextRoom, badBegin, tooDeep, badEnd, outside, emptyKey, unclosed, noComponent, noRoom, reservedKey, strayByte}
+use Rattle.octets.specs.declared.Output.{Output}
+use Rattle.octets.specs.Answers.{longest, done, tooLong, noTextRoom, badBegin, tooDeep, badEnd, outside, emptyKey, unclosed, noComponent, noRoom, reservedKey, strayByte, output}
 use Rattle.unfolding.specs.Unfold.{unfolded}
 use Rattle.lines.specs.declared.Fault.{Fault}
 use Rattle.lines.specs.declared.Fault.the-variants.{ReservedKey, EmptyKey, StrayByte}
-use Rattle.tables.specs.Rows.{flat, componentSize, propertySize, parameterSize, componentWords, propertyWords, parameterWords}
+use Rattle.tables.specs.Rows.{flat, componentSize, propertySize, parameterSize}
 use Rattle.nesting.specs.Steps.{State, nothing, Run, finished, stopped, runOf, outcomeOf}
 use Rattle.nesting.specs.declared.Counts.{Counts}
 use Rattle.nesting.specs.declared.Refusal.{Refusal}
@@ -63,6 +63,10 @@ told answer place size counts =
       parameters = counts .parameters;
     }
 
+-- the three counts that a reading names
+abbrev pub countsIn : Reading → Counts
+countsIn r = record { components = r .components; properties = r .properties; parameters = r .parameters }
+
 abbrev pub none : Counts
 none = record { components = 0; properties = 0; parameters = 0 }
 
@@ -79,22 +83,47 @@ fits counts room =
     leb (counts .components) (room .components)
     && (leb (counts .properties) (room .properties) && leb (counts .parameters) (room .parameters))
 
--- what the text alone answers, and then whether the tables have room
-abbrev pub answered : Outcome → ℕ → Counts → Reading
-answered (Refused r from) size room = refusal (numberOf r) (placeOf r from) size
-answered (Read counts) size room = told (pick (fits counts room) done noRoom) 0 size counts
+-- what a text answers: why it is refused, or its counts, with the number that these have
+abbrev pub answered : Outcome → ℕ → (Counts → ℕ) → Reading
+answered (Refused r from) size number = refusal (numberOf r) (placeOf r from) size
+answered (Read counts) size number = told (number counts) 0 size counts
+
+-- 10 where a count exceeds its rows
+abbrev pub byRoom : Counts → Counts → ℕ
+byRoom room counts = pick (fits counts room) done noRoom
+
+-- the text alone, and with tables
+abbrev pub measureText : List ℕ → Reading
+measureText text = answered (outcomeOf text) (length text) (λ counts. done)
 
 abbrev pub readText : List ℕ → Counts → Reading
-readText text room = answered (outcomeOf text) (length text) room
+readText text room = answered (outcomeOf text) (length text) (byRoom room)
 
--- order: 1, 2, then what the text answers, then 10
-unfoldable pub readingOf : List ℕ → ℕ → Counts → Reading
-readingOf feed textRoom room =
+-- order: the limit, the room for the text, and else Done with the length
+abbrev pub unfoldAnswer : List ℕ → ℕ → Output
+unfoldAnswer feed room =
     pick (leb (length feed) longest)
-    (pick (leb (length (unfolded feed)) textRoom)
-    (readText (unfolded feed) room)
-    (refusal noTextRoom 0 (length (unfolded feed))))
+    (pick (leb (length (unfolded feed)) room) (output done 0 (length (unfolded feed))) (output noTextRoom 0 (length (unfolded feed))))
+    (output tooLong 0 0)
+
+-- the same order, and behind it what the unfolded text answers
+abbrev pub onceUnfolded : List ℕ → ℕ → Reading → Reading
+onceUnfolded feed textRoom answer =
+    pick (leb (length feed) longest)
+    (pick (leb (length (unfolded feed)) textRoom) answer (refusal noTextRoom 0 (length (unfolded feed))))
     (refusal tooLong 0 0)
+
+-- the one call: behind the text's own answer, 10
+unfoldable pub readingOf : List ℕ → ℕ → Counts → Reading
+readingOf feed textRoom room = onceUnfolded feed textRoom (readText (unfolded feed) room)
+
+-- "a measuring call, which unfolds and returns the counts": "Refusals: measuring gives 1 to 9 and later line refusals"
+unfoldable pub measuringOf : List ℕ → ℕ → Reading
+measuringOf feed textRoom = onceUnfolded feed textRoom (measureText (unfolded feed))
+
+-- "a filling call on the unfolded text": "filling gives 1, 3 to 10 and those too"
+unfoldable pub fillingOf : List ℕ → Counts → Reading
+fillingOf text room = pick (leb (length text) longest) (readText text room) (refusal tooLong 0 0)
 
 -- bytes at the front of a buffer that has room for all of them; else the buffer as it was
 abbrev pub laidWhole : List ℕ → List ℕ → List ℕ
@@ -109,15 +138,9 @@ abbrev pub stateOf : Run → State
 stateOf (finished s) = s
 stateOf (stopped r place) = nothing
 
-abbrev pub rowsRead : List ℕ → State
-rowsRead feed = stateOf (runOf (unfolded feed))
+abbrev pub rowsIn : List ℕ → State
+rowsIn text = stateOf (runOf text)
 
 -- a table: on Done "the first rows only", else no word changed
 abbrev pub tableAfter : {A : Type 0} → (A → List ℕ) → List A → Reading → List ℕ → List ℕ
 tableAfter words rows reading table = pick (eqb (reading .answer) done) (laid (flat words rows) table) table
-
--- the three tables, at entry and at exit, behind a text that is read
-pub record Filled (text : List ℕ) (r : Reading) (c p q c′ p′ q′ : List ℕ) : Type 0 where
-  pub components : c′ ≡ tableAfter componentWords (stateOf (runOf text) .components) r c
-  pub properties : p′ ≡ tableAfter propertyWords (stateOf (runOf text) .properties) r p
-  pub parameters : q′ ≡ tableAfter parameterWords (stateOf (runOf text) .parameters) r q

@@ -1,16 +1,17 @@
-// The public reading: a feed is unfolded into a lent text and read into three lent tables.
+// The public reading, in one call or in two: a feed is unfolded into a lent text, its rows are counted, and put into three lent tables.
 ghost use mathlib.Core.Path.{_≡_};
 ghost use Prim.Native.Nat.{_≤_};
 ghost use lib.ListN.{length};
 ghost use Rattle.octets.specs.Answers.{longest};
 ghost use Rattle.unfolding.specs.Unfold.{unfolded};
-ghost use Rattle.reading.specs.Answers.{laidWhole, readText, Filled, numberOf, faultNumber, placeOf, faultPlace, refusal, told, fits, roomFor};
 ghost use Rattle.tables.specs.Lent.{lent};
-ghost use Rattle.reading.specs.Lent.{readInto, left};
+ghost use Rattle.reading.specs.Answers.{laidWhole, unfoldAnswer, measureText, measuringOf, textAfter, numberOf, faultNumber, placeOf, faultPlace, refusal, told, countsIn, fits, roomFor};
+ghost use Rattle.reading.specs.Lent.{readInto, left, fillFrom, leftFilled};
 use lines::Fault;
 use nesting::Counts;
 use nesting::Outcome;
 use nesting::Refusal;
+use octets::Output;
 
 // Six numbers: answer, place, length of the unfolded text, and three counts of rows.
 pub struct Reading {
@@ -94,16 +95,16 @@ fn refuse(answer: u32, place: usize, length: usize) -> Reading
 }
 
 // Whether each count has its rows.
-fn have_room(counts: Counts, components: &[u32], properties: &[u32], parameters: &[u32]) -> bool
-    ensures { λ r. ⌜ r ≡ fits counts (roomFor (length (now (components .entry))) (length (now (properties .entry))) (length (now (parameters .entry)))) ⌝ }
+fn have_room(told: Reading, components: &[u32], properties: &[u32], parameters: &[u32]) -> bool
+    ensures { λ r. ⌜ r ≡ fits (countsIn told) (roomFor (length (now (components .entry))) (length (now (properties .entry))) (length (now (parameters .entry)))) ⌝ }
 {
-    (counts.components <= tables::component_rows(components))
-        & ((counts.properties <= tables::property_rows(properties))
-            & (counts.parameters <= tables::parameter_rows(parameters)))
+    (told.components <= tables::component_rows(components))
+        & ((told.properties <= tables::property_rows(properties))
+            & (told.parameters <= tables::parameter_rows(parameters)))
 }
 
 // Unfolds a feed into a text, which stays as it was where the feed does not fit. Returns the unfolded length.
-pub fn unfold_where_it_fits(feed: &[u8], text: &mut [u8]) -> usize
+fn unfold_where_it_fits(feed: &[u8], text: &mut [u8]) -> usize
     ensures { λ r. ⌜ r ≡ length (unfolded (now (feed .entry))) ⌝ }
     ensures { λ _. ⌜ now (text .exit) ≡ laidWhole (unfolded (now (feed .entry))) (now (text .entry)) ⌝ }
 {
@@ -119,33 +120,86 @@ pub fn unfold_where_it_fits(feed: &[u8], text: &mut [u8]) -> usize
     unfolding::unfold_into(feed, text)
 }
 
-// Reads an unfolded text into the tables, or refuses and leaves them as they were.
-fn read_text(
-    text: &[u8],
-    components: &mut [u32],
-    properties: &mut [u32],
-    parameters: &mut [u32],
-) -> Reading
+// Unfolds a feed into a text that takes all of it; a refusal changes nothing.
+pub fn unfold_feed(feed: &[u8], text: &mut [u8]) -> Output
+    ensures { λ r. ⌜ r ≡ unfoldAnswer (now (feed .entry)) (length (now (text .entry))) ⌝ }
+    ensures { λ _. ⌜ now (text .exit) ≡ textAfter (now (feed .entry)) (now (text .entry)) ⌝ }
+{
+    if octets::LONGEST < feed.len() {
+        return Output {
+            answer: octets::TOO_LONG,
+            place: 0,
+            length: 0,
+        };
+    }
+    let length = unfold_where_it_fits(feed, text);
+    if text.len() < length {
+        return Output {
+            answer: octets::NO_TEXT_ROOM,
+            place: 0,
+            length,
+        };
+    }
+    Output {
+        answer: octets::DONE,
+        place: 0,
+        length,
+    }
+}
+
+// What a text alone answers: its counts, or why it is refused.
+fn measure_text(text: &[u8]) -> Reading
     requires { ⌜ length (now text) ≤ longest ⌝ }
-    ensures { λ r. ⌜ r ≡ readText (now (text .entry)) (roomFor (length (now (components .entry))) (length (now (properties .entry))) (length (now (parameters .entry)))) ⌝ }
-    ensures { λ r. ⌜ Filled (now (text .entry)) r
-        (now (components .entry)) (now (properties .entry)) (now (parameters .entry))
-        (now (components .exit)) (now (properties .exit)) (now (parameters .exit)) ⌝ }
+    ensures { λ r. ⌜ r ≡ measureText (now (text .entry)) ⌝ }
 {
     let size = text.len();
     let outcome = nesting::count(text);
     match outcome {
         Outcome::Refused(r, from) => refuse(number_of(r), place_of(r, from), size),
-        Outcome::Read(counts) => {
-            if !have_room(counts, components, properties, parameters) {
-                return tell(octets::NO_ROOM, 0, size, counts);
-            }
-            nesting::pass(text, components, properties, parameters);
-            tell(octets::DONE, 0, size, counts)
-        }
+        Outcome::Read(counts) => tell(octets::DONE, 0, size, counts),
     }
 }
 
+// Unfolds a feed into the text, and tells the rows that it needs.
+pub fn measure_components(feed: &[u8], text: &mut [u8]) -> Reading
+    ensures { λ r. ⌜ r ≡ measuringOf (now (feed .entry)) (length (now (text .entry))) ⌝ }
+    ensures { λ _. ⌜ now (text .exit) ≡ textAfter (now (feed .entry)) (now (text .entry)) ⌝ }
+{
+    let unfolded = unfold_feed(feed, text);
+    if unfolded.answer != octets::DONE {
+        return refuse(unfolded.answer, unfolded.place, unfolded.length);
+    }
+    let n = unfolded.length;
+    measure_text(&text[0..n])
+}
+
+// Reads an unfolded text into the tables, or refuses and leaves them as they were.
+pub fn fill_components(
+    text: &[u8],
+    components: &mut [u32],
+    properties: &mut [u32],
+    parameters: &mut [u32],
+) -> Reading
+    ensures { λ r. ⌜ r ≡ fillFrom (lent (now (text .entry)) (now (components .entry)) (now (properties .entry)) (now (parameters .entry))) ⌝ }
+    ensures { λ _. ⌜ lent (now (text .entry)) (now (components .exit)) (now (properties .exit)) (now (parameters .exit))
+        ≡ leftFilled (lent (now (text .entry)) (now (components .entry)) (now (properties .entry)) (now (parameters .entry))) ⌝ }
+{
+    if octets::LONGEST < text.len() {
+        return refuse(octets::TOO_LONG, 0, 0);
+    }
+    let mut told = measure_text(text);
+    if told.answer != octets::DONE {
+        return told;
+    }
+    if !have_room(told, components, properties, parameters) {
+        told.answer = octets::NO_ROOM;
+        return told;
+    }
+    nesting::pass(text, components, properties, parameters);
+    told
+}
+
+// Unfolds a feed into the text and reads that into the tables, in one call.
 pub fn read_components(
     feed: &[u8],
     text: &mut [u8],
@@ -157,12 +211,10 @@ pub fn read_components(
     ensures { λ _. ⌜ lent (now (text .exit)) (now (components .exit)) (now (properties .exit)) (now (parameters .exit))
         ≡ left (now (feed .entry)) (lent (now (text .entry)) (now (components .entry)) (now (properties .entry)) (now (parameters .entry))) ⌝ }
 {
-    if octets::LONGEST < feed.len() {
-        return refuse(octets::TOO_LONG, 0, 0);
+    let unfolded = unfold_feed(feed, text);
+    if unfolded.answer != octets::DONE {
+        return refuse(unfolded.answer, unfolded.place, unfolded.length);
     }
-    let n = unfold_where_it_fits(feed, text);
-    if text.len() < n {
-        return refuse(octets::NO_TEXT_ROOM, 0, n);
-    }
-    read_text(&text[0..n], components, properties, parameters)
+    let n = unfolded.length;
+    fill_components(&text[0..n], components, properties, parameters)
 }
