@@ -2,8 +2,8 @@
 ghost use mathlib.Core.Path.{_≡_};
 ghost use lib.ListN.{length};
 ghost use Rattle.tables.specs.Lent.{lent};
-ghost use Rattle.reading.specs.Answers.{textAfter};
-ghost use Rattle.reading.specs.Lent.{readInto, left};
+ghost use Rattle.reading.specs.Answers.{unfoldAnswer, measuringOf, textAfter};
+ghost use Rattle.reading.specs.Lent.{readInto, left, fillFrom, leftFilled};
 ghost use Rattle.folding.specs.Strict.{strict};
 ghost use Rattle.folding.specs.Repository.{repository};
 ghost use Rattle.folding.specs.Answers.{strictLine, repositoryLine, foldAnswer, foldOut};
@@ -13,7 +13,6 @@ ghost use Rattle.writing.specs.Answers.{writeAnswer, writeOut};
 ghost use Rattle.twins.specs.Answers.{twinsAnswer, looseTwinsAnswer};
 ghost use Rattle.neighbours.specs.Counts.{neighboursAnswer};
 ghost use Rattle.exports.specs.Numbers.{readingNumbers, outputNumbers, twinNumbers, neighbourNumbers};
-ghost use Rattle.exports.specs.Unfolding.{unfoldAnswer};
 ghost use Rattle.exports.specs.Modes.{modeOf};
 use escapes::Mode;
 use neighbours::Neighbours;
@@ -57,38 +56,40 @@ pub extern "C" fn hawniretem_read(
     )
 }
 
+// Unfolds a feed into the text and tells the rows that it needs, so that as many can be lent. No table is lent, and 10 is never told.
+#[no_mangle]
+pub extern "C" fn hawniretem_measure(feed: &[u8], text: &mut [u8], numbers: &mut [usize; 6])
+    ensures { λ _. ⌜ now (numbers .exit) ≡ readingNumbers (measuringOf (now (feed .entry)) (length (now (text .entry)))) ⌝ }
+    ensures { λ _. ⌜ now (text .exit) ≡ textAfter (now (feed .entry)) (now (text .entry)) ⌝ }
+{
+    tell_reading(reading::measure_components(feed, text), numbers)
+}
+
+// Reads an unfolded text into the three tables: the first bytes that measuring left, as many as it told, and no more.
+#[no_mangle]
+pub extern "C" fn hawniretem_fill(
+    text: &[u8],
+    components: &mut [u32],
+    properties: &mut [u32],
+    parameters: &mut [u32],
+    numbers: &mut [usize; 6],
+)
+    ensures { λ _. ⌜ now (numbers .exit)
+        ≡ readingNumbers (fillFrom (lent (now (text .entry)) (now (components .entry)) (now (properties .entry)) (now (parameters .entry)))) ⌝ }
+    ensures { λ _. ⌜ lent (now (text .entry)) (now (components .exit)) (now (properties .exit)) (now (parameters .exit))
+        ≡ leftFilled (lent (now (text .entry)) (now (components .entry)) (now (properties .entry)) (now (parameters .entry))) ⌝ }
+{
+    tell_reading(
+        reading::fill_components(text, components, properties, parameters),
+        numbers,
+    )
+}
+
 // Puts the answer, the place and the length into the lent array.
 fn tell(output: Output, numbers: &mut [usize; 3])
     ensures { λ _. ⌜ now (numbers .exit) ≡ outputNumbers output ⌝ }
 {
     *numbers = [output.answer as usize, output.place, output.length];
-}
-
-// Unfolds a feed into a text that takes all of it; a refusal changes nothing.
-fn unfold_whole(feed: &[u8], text: &mut [u8]) -> Output
-    ensures { λ r. ⌜ r ≡ unfoldAnswer (now (feed .entry)) (length (now (text .entry))) ⌝ }
-    ensures { λ _. ⌜ now (text .exit) ≡ textAfter (now (feed .entry)) (now (text .entry)) ⌝ }
-{
-    if octets::LONGEST < feed.len() {
-        return Output {
-            answer: octets::TOO_LONG,
-            place: 0,
-            length: 0,
-        };
-    }
-    let length = reading::unfold_where_it_fits(feed, text);
-    if text.len() < length {
-        return Output {
-            answer: octets::NO_TEXT_ROOM,
-            place: 0,
-            length,
-        };
-    }
-    Output {
-        answer: octets::DONE,
-        place: 0,
-        length,
-    }
 }
 
 // Unfolds a feed.
@@ -97,7 +98,7 @@ pub extern "C" fn hawniretem_unfold(feed: &[u8], text: &mut [u8], numbers: &mut 
     ensures { λ _. ⌜ now (numbers .exit) ≡ outputNumbers (unfoldAnswer (now (feed .entry)) (length (now (text .entry)))) ⌝ }
     ensures { λ _. ⌜ now (text .exit) ≡ textAfter (now (feed .entry)) (now (text .entry)) ⌝ }
 {
-    tell(unfold_whole(feed, text), numbers)
+    tell(reading::unfold_feed(feed, text), numbers)
 }
 
 // Folds a line as the repository does.
