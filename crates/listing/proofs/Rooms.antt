@@ -17,7 +17,7 @@ use Rattle.nesting.specs.Steps.{outcomeOf}
 use Rattle.nesting.specs.declared.Counts.{Counts}
 use Rattle.nesting.specs.declared.Outcome.{Outcome}
 use Rattle.nesting.specs.declared.Outcome.the-variants.{Read, Refused}
-use Rattle.reading.specs.Answers.{refusal, told, fits, answered, readingOf, rowsRead, tableAfter}
+use Rattle.reading.specs.Answers.{refusal, told, countsIn, fits, answered, byRoom, readingOf, rowsIn, tableAfter}
 use Rattle.tables.specs.Lent.{Lent}
 use Rattle.reading.specs.Lent.{roomIn, readInto, left}
 use Rattle.reading.specs.declared.Reading.{Reading}
@@ -26,7 +26,7 @@ use Rattle.listing.specs.Listing.{HasRows}
 
 -- a reading that is Done went to the end of its text, and its counts are within the room
 pub record Within (feed : List ℕ) (r : Reading) (room : Counts) : Type 0 where
-  pub read : Finished (unfolded feed) (record { components = r .components; properties = r .properties; parameters = r .parameters })
+  pub read : Finished (unfolded feed) (countsIn r)
   pub components : r .components ≤ room .components
   pub properties : r .properties ≤ room .properties
   pub parameters : r .parameters ≤ room .parameters
@@ -51,8 +51,8 @@ done-within feed textRoom room = go (leb (length feed) longest) (leb (length (un
     size : ℕ
     size = length (unfolded feed)
 
-    go : (t u : Bool) (o : Outcome) → outcomeOf (unfolded feed) ≡ o → pick t (pick u (answered o size room) (refusal noTextRoom 0 size)) (refusal tooLong 0 0) .answer ≡ done
-        → Within feed (pick t (pick u (answered o size room) (refusal noTextRoom 0 size)) (refusal tooLong 0 0)) room
+    go : (t u : Bool) (o : Outcome) → outcomeOf (unfolded feed) ≡ o → pick t (pick u (answered o size (byRoom room)) (refusal noTextRoom 0 size)) (refusal tooLong 0 0) .answer ≡ done
+        → Within feed (pick t (pick u (answered o size (byRoom room)) (refusal noTextRoom 0 size)) (refusal tooLong 0 0)) room
     go false u o q e = absurd (omega arith)
     go true false o q e = absurd (omega arith)
     go true true (Refused x place) q e = absurd (eqb-false _ done (refusal-number x) e)
@@ -69,9 +69,9 @@ pub has-rows : (feed : List ℕ) (b : Lent) {r : Reading} {b′ : Lent} → r �
 has-rows feed b e f =
     let w = done-within feed (length (b .text)) (roomIn b) in
     let s = readInto feed b in
-    let x = ap (λ (l : Lent). length (l .components)) f ∙ table-length componentWords (rowsRead feed .components) s (b .components) in
-    let y = ap (λ (l : Lent). length (l .properties)) f ∙ table-length propertyWords (rowsRead feed .properties) s (b .properties) in
-    let z = ap (λ (l : Lent). length (l .parameters)) f ∙ table-length parameterWords (rowsRead feed .parameters) s (b .parameters) in
+    let x = ap (λ (l : Lent). length (l .components)) f ∙ table-length componentWords (rowsIn (unfolded feed) .components) s (b .components) in
+    let y = ap (λ (l : Lent). length (l .properties)) f ∙ table-length propertyWords (rowsIn (unfolded feed) .properties) s (b .properties) in
+    let z = ap (λ (l : Lent). length (l .parameters)) f ∙ table-length parameterWords (rowsIn (unfolded feed) .parameters) s (b .parameters) in
     record {
       components = rw (e, x) (λ g. w g .components);
       properties = rw (e, y) (λ g. w g .properties);

@@ -7,6 +7,7 @@ ghost use Rattle.listing.specs.Texts.{field, digit, digits, decimal, par
 ghost use Rattle.listing.specs.Lines.{listedComponent, listedProperty, listedParameter, rowSize, listedRow, listedRows, heading, sectionText, refused};
 ghost use Rattle.listing.specs.Listing.{HasRows, listed, listing, leftListed, listingOf};
 ghost use Rattle.tables.specs.Lent.{lent};
+ghost use Rattle.reading.specs.Lent.{readInto, left};
 use reading::Reading;
 use tables::ComponentRow;
 use tables::ParameterRow;
@@ -210,6 +211,26 @@ fn lay_listing(
     lay_section(Section::Parameters, text, parameters, r.parameters, out, to)
 }
 
+// Reads a feed into the text and the tables by the two calls in turn: what measuring refuses, or what filling answers.
+fn read_in_turn(
+    feed: &[u8],
+    text: &mut [u8],
+    components: &mut [u32],
+    properties: &mut [u32],
+    parameters: &mut [u32],
+) -> Reading
+    ensures { λ r. ⌜ r ≡ readInto (now (feed .entry)) (lent (now (text .entry)) (now (components .entry)) (now (properties .entry)) (now (parameters .entry))) ⌝ }
+    ensures { λ _. ⌜ lent (now (text .exit)) (now (components .exit)) (now (properties .exit)) (now (parameters .exit))
+        ≡ left (now (feed .entry)) (lent (now (text .entry)) (now (components .entry)) (now (properties .entry)) (now (parameters .entry))) ⌝ }
+{
+    let measured = reading::measure_components(feed, text);
+    if measured.answer != octets::DONE {
+        return measured;
+    }
+    let n = measured.length;
+    reading::fill_components(&text[0..n], components, properties, parameters)
+}
+
 // Lists a feed into `out` as far as it goes, and counts the listing's bytes in full. The feed is read into the text and the tables.
 pub fn list(
     feed: &[u8],
@@ -235,7 +256,7 @@ pub fn list(
         };
         return lay_refusal(r, out);
     }
-    let r = reading::read_components(feed, text, components, properties, parameters);
+    let r = read_in_turn(feed, text, components, properties, parameters);
     lay_listing(r, text, components, properties, parameters, out)
 }
 

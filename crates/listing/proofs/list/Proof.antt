@@ -18,10 +18,10 @@ lent-of c =
     let a = c .before .before .before .before .before .before .args in
     lent (a .text .now) (a .components .now) (a .properties .now) (a .parameters .now)
 
-abbrev else-of : tie.After-read-components → tie.Else1
+abbrev else-of : tie.After-read-in-turn → tie.Else1
 else-of c = c .before .before .before .before .before
 
-abbrev read-of : tie.After-lay-listing-arg5 → tie.After-read-components
+abbrev read-of : tie.After-lay-listing-arg5 → tie.After-read-in-turn
 read-of c = c .before .before .before .before .before .before .before .before .before .before .before .before .before
 
 lay-refusal-requires : tie.Need-lay-refusal-requires
@@ -36,13 +36,13 @@ returns c =
     let t = too-long (feed-of (e .before)) (lent-of (e .before)) (e .if1 .taken) in
     (from-as (t .0) (c .before .before .lay-refusal .ensures), t .1)
 
-read-components-requires : tie.Need-read-components-requires
-read-components-requires c κs = search needs
+read-in-turn-requires : tie.Need-read-in-turn-requires
+read-in-turn-requires c κs = search needs
 
 lay-listing-requires : tie.Need-lay-listing-requires
 lay-listing-requires c κs =
     let r = read-of c in
-    has-rows (feed-of (else-of r .before)) (lent-of (else-of r .before)) (r .read-components .ensures .0) (r .read-components .ensures .1)
+    has-rows (feed-of (else-of r .before)) (lent-of (else-of r .before)) (r .read-in-turn .ensures .0) (r .read-in-turn .ensures .1)
 
 same-length-2 : tie.Need-same-length-2
 same-length-2 c = search needs
@@ -63,7 +63,7 @@ returns-2 : tie.Need-returns-2
 returns-2 c =
     let r = read-of (c .before .before .before) in
     let e = else-of r in
-    let t = read (feed-of (e .before)) (lent-of (e .before)) (e .if1 .left) (r .read-components .ensures .0) (r .read-components .ensures .1) in
+    let t = read (feed-of (e .before)) (lent-of (e .before)) (e .if1 .left) (r .read-in-turn .ensures .0) (r .read-in-turn .ensures .1) in
     (from-as (t .0) (c .before .before .lay-listing .ensures), t .1)
 
 pub list-spec : {M : Type 1} → statement M
@@ -73,7 +73,7 @@ list-spec =
     lay-refusal-requires
     same-length
     returns
-    read-components-requires
+    read-in-turn-requires
     lay-listing-requires
     same-length-2
     same-length-3
