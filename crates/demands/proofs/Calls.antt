@@ -32,9 +32,14 @@ use Rattle.escapes.proofs.read_text.Reads as read-text-reads
 use Rattle.escapes.proofs.write_text.Kinds as write-text-kinds
 use Rattle.escapes.proofs.write_text.Reads as write-text-reads
 use Rattle.tables.specs.Lent.{Lent}
-use Rattle.reading.specs.Lent.{readInto, left}
+use Rattle.reading.specs.Answers.{measuringOf, textAfter}
+use Rattle.reading.specs.Lent.{readInto, left, fillFrom, leftFilled}
 use Rattle.reading.proofs.read_components.Kinds as read-kinds
 use Rattle.reading.proofs.read_components.Reads as read-reads
+use Rattle.reading.proofs.measure_components.Kinds as measure-kinds
+use Rattle.reading.proofs.measure_components.Reads as measure-reads
+use Rattle.reading.proofs.fill_components.Kinds as fill-kinds
+use Rattle.reading.proofs.fill_components.Reads as fill-reads
 use Rattle.writing.specs.Answers.{writeAnswer, writeOut}
 use Rattle.writing.proofs.write_components.Kinds as write-kinds
 use Rattle.writing.proofs.write_components.Reads as write-reads
@@ -48,7 +53,7 @@ use Rattle.listing.proofs.list.Kinds as list-kinds
 use Rattle.listing.proofs.list.Reads as list-reads
 use Rattle.listing.proofs.list_feed.Kinds as list-feed-kinds
 use Rattle.listing.proofs.list_feed.Reads as list-feed-reads
-use Rattle.demands.specs.Calls.{Call, Defined, Determined, partOf, lentIn, leftIn}
+use Rattle.demands.specs.Calls.{Call, Defined, Determined, partOf, lentIn, leftIn, tablesIn}
 use Rattle.demands.proofs.Determined.{determined}
 
 -- ---- calls that are lent nothing to change
@@ -168,7 +173,7 @@ write-text-is = record {
 pub write-text-determined : Determined writeText (λ κs r. r)
 write-text-determined = determined write-text-is
 
--- ---- the reading, the writer, both twin tests and the listing
+-- ---- the reading in one call and in two, the writer, both twin tests and the listing
 
 -- `reading::read_components`
 abbrev pub readComponents : Call
@@ -185,6 +190,38 @@ read-components-is = record {
 
 pub read-components-determined : Determined readComponents (λ κs r. r)
 read-components-determined = determined read-components-is
+
+-- `reading::measure_components`
+abbrev pub measureComponents : Call
+measureComponents =
+    record { lifetimes = 2; parameters = measure-kinds.ps; result = measure-kinds.r; asked = measure-reads.Asked; promised = measure-reads.Learnt }
+
+pub measure-components-is : Defined measureComponents (λ κs r. r)
+    (λ κs a. measuringOf (now (a .0)) (length (now (a .1 .0))))
+    (λ κs a. (tt, (textAfter (now (a .0)) (now (a .1 .0)), tt)))
+measure-components-is = record {
+  asks-nothing = λ κs a. tt;
+  only = λ κs a r x p. record { result-is = p .0; exit-is = ap (λ (text : List ℕ). (tt, (text, tt))) (p .1) };
+}
+
+pub measure-components-determined : Determined measureComponents (λ κs r. r)
+measure-components-determined = determined measure-components-is
+
+-- `reading::fill_components`
+abbrev pub fillComponents : Call
+fillComponents =
+    record { lifetimes = 4; parameters = fill-kinds.ps; result = fill-kinds.r; asked = fill-reads.Asked; promised = fill-reads.Learnt }
+
+pub fill-components-is : Defined fillComponents (λ κs r. r)
+    (λ κs a. fillFrom (lentIn a))
+    (λ κs a. (tt, tablesIn (leftFilled (lentIn a)) tt))
+fill-components-is = record {
+  asks-nothing = λ κs a. tt;
+  only = λ κs a r x p. record { result-is = p .0; exit-is = ap (λ (b : Lent). (tt, tablesIn b tt)) (p .1) };
+}
+
+pub fill-components-determined : Determined fillComponents (λ κs r. r)
+fill-components-determined = determined fill-components-is
 
 -- `writing::write_components`
 abbrev pub writeComponents : Call

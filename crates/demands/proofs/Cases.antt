@@ -16,7 +16,7 @@ use Rattle.nesting.specs.declared.Entry.{Entry}
 use Rattle.nesting.specs.declared.Refusal.{Refusal}
 use Rattle.nesting.specs.declared.Outcome.{Outcome}
 use Rattle.nesting.specs.declared.Outcome.the-variants.{Read, Refused}
-use Rattle.reading.specs.Answers.{numberOf, placeOf, told, refusal, fits, answered, readText, readingOf}
+use Rattle.reading.specs.Answers.{numberOf, placeOf, told, refusal, fits, answered, byRoom, readText, readingOf}
 use Rattle.reading.specs.declared.Reading.{Reading}
 use Rattle.demands.specs.Readable.{Readable}
 use Rattle.demands.specs.Room.{AtMost, Exceeds}
@@ -109,7 +109,7 @@ module _ (feed : List ℕ) (textRoom : ℕ) (room : Counts) where
       of-read s r true e = all-read s r t (fitting (countsOf s) room e)
       of-read s r false e = no-room s r t (exceeding (countsOf s) room e)
 
-      go : (o : Outcome) → outcomeOf (unfolded feed) ≡ o → Answered feed textRoom room (answered o (length (unfolded feed)) room)
+      go : (o : Outcome) → outcomeOf (unfolded feed) ≡ o → Answered feed textRoom room (answered o (length (unfolded feed)) (byRoom room))
       go (Read c) e =
           let w = outcome-readable feed c h e in
           rw (w .2) (of-read (w .0) (w .1) (fits (countsOf (w .0)) room) refl)

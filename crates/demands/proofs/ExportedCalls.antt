@@ -11,18 +11,21 @@ use Rattle.folding.specs.Answers.{strictLine, repositoryLine, foldAnswer, foldO
 use Rattle.quoting.specs.Answers.{quoteAnswer, quoteOut}
 use Rattle.escapes.specs.Answers.{textAnswer, textOut, valueAnswer, valueOut}
 use Rattle.tables.specs.Lent.{Lent}
-use Rattle.reading.specs.Answers.{textAfter}
-use Rattle.reading.specs.Lent.{readInto, left}
+use Rattle.reading.specs.Answers.{unfoldAnswer, measuringOf, textAfter}
+use Rattle.reading.specs.Lent.{readInto, left, fillFrom, leftFilled}
 use Rattle.writing.specs.Answers.{writeAnswer, writeOut}
 use Rattle.twins.specs.Answers.{twinsAnswer, looseTwinsAnswer}
 use Rattle.neighbours.specs.Counts.{neighboursAnswer}
 use Rattle.exports.specs.Numbers.{readingNumbers, outputNumbers, twinNumbers, neighbourNumbers}
 use Rattle.exports.specs.Modes.{modeOf}
-use Rattle.exports.specs.Unfolding.{unfoldAnswer}
 use Rattle.exports.proofs.hawniretem_unfold.Kinds as unfold-kinds
 use Rattle.exports.proofs.hawniretem_unfold.Reads as unfold-reads
 use Rattle.exports.proofs.hawniretem_read.Kinds as read-kinds
 use Rattle.exports.proofs.hawniretem_read.Reads as read-reads
+use Rattle.exports.proofs.hawniretem_measure.Kinds as measure-kinds
+use Rattle.exports.proofs.hawniretem_measure.Reads as measure-reads
+use Rattle.exports.proofs.hawniretem_fill.Kinds as fill-kinds
+use Rattle.exports.proofs.hawniretem_fill.Reads as fill-reads
 use Rattle.exports.proofs.hawniretem_fold_strict.Kinds as fold-strict-kinds
 use Rattle.exports.proofs.hawniretem_fold_strict.Reads as fold-strict-reads
 use Rattle.exports.proofs.hawniretem_fold_line.Kinds as fold-line-kinds
@@ -41,7 +44,7 @@ use Rattle.exports.proofs.hawniretem_loose_twins.Kinds as loose-twins-kinds
 use Rattle.exports.proofs.hawniretem_loose_twins.Reads as loose-twins-reads
 use Rattle.exports.proofs.hawniretem_neighbours.Kinds as neighbours-kinds
 use Rattle.exports.proofs.hawniretem_neighbours.Reads as neighbours-reads
-use Rattle.demands.specs.Calls.{Call, Defined, Determined, lentIn, leftIn}
+use Rattle.demands.specs.Calls.{Call, Defined, Determined, lentIn, leftIn, tablesIn}
 use Rattle.demands.proofs.Determined.{determined}
 
 -- `exports::hawniretem_unfold`
@@ -156,6 +159,38 @@ hawniretem-read-is = record {
 
 pub hawniretem-read-determined : Determined hawniretemRead (λ κs r. r)
 hawniretem-read-determined = determined hawniretem-read-is
+
+-- `exports::hawniretem_measure`
+abbrev pub hawniretemMeasure : Call
+hawniretemMeasure =
+    record { lifetimes = 3; parameters = measure-kinds.ps; result = measure-kinds.r; asked = measure-reads.Asked; promised = measure-reads.Learnt }
+
+pub hawniretem-measure-is : Defined hawniretemMeasure (λ κs r. r)
+    (λ κs a. tt)
+    (λ κs a. (tt, (textAfter (now (a .0)) (now (a .1 .0)), (readingNumbers (measuringOf (now (a .0)) (length (now (a .1 .0)))), tt))))
+hawniretem-measure-is = record {
+  asks-nothing = λ κs a. tt;
+  only = λ κs a r x p. record { result-is = refl; exit-is = ap₂ (λ (text numbers : List ℕ). (tt, (text, (numbers, tt)))) (p .1) (p .0) };
+}
+
+pub hawniretem-measure-determined : Determined hawniretemMeasure (λ κs r. r)
+hawniretem-measure-determined = determined hawniretem-measure-is
+
+-- `exports::hawniretem_fill`
+abbrev pub hawniretemFill : Call
+hawniretemFill =
+    record { lifetimes = 5; parameters = fill-kinds.ps; result = fill-kinds.r; asked = fill-reads.Asked; promised = fill-reads.Learnt }
+
+pub hawniretem-fill-is : Defined hawniretemFill (λ κs r. r)
+    (λ κs a. tt)
+    (λ κs a. (tt, tablesIn (leftFilled (lentIn a)) (readingNumbers (fillFrom (lentIn a)), tt)))
+hawniretem-fill-is = record {
+  asks-nothing = λ κs a. tt;
+  only = λ κs a r x p. record { result-is = refl; exit-is = ap₂ (λ (b : Lent) (numbers : List ℕ). (tt, tablesIn b (numbers, tt))) (p .1) (p .0) };
+}
+
+pub hawniretem-fill-determined : Determined hawniretemFill (λ κs r. r)
+hawniretem-fill-determined = determined hawniretem-fill-is
 
 -- `exports::hawniretem_write`
 abbrev pub hawniretemWrite : Call

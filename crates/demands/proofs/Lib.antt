@@ -1,6 +1,7 @@
 pub mod Cases
 pub mod Fronts
 pub mod MoreRoom
+pub mod Filling
 pub mod Readable
 pub mod Determined
 pub mod Chains

@@ -20,13 +20,13 @@ use Rattle.nesting.specs.Steps.{State, countsOf}
 use Rattle.nesting.specs.declared.Counts.{Counts}
 use Rattle.nesting.specs.declared.Refusal.{Refusal}
 use Rattle.lines.specs.declared.Fault.the-variants.{ReservedKey, EmptyKey, StrayByte}
-use Rattle.reading.specs.Answers.{numberOf, told, roomFor, readingOf, textAfter}
+use Rattle.reading.specs.Answers.{numberOf, told, countsIn, roomFor, readingOf, textAfter}
 use Rattle.reading.specs.declared.Reading.{Reading}
 use Rattle.demands.specs.Readable.{Readable}
 use Rattle.tables.specs.Lent.{Lent}
 use Rattle.reading.specs.Lent.{roomIn, readInto, left}
 use Rattle.demands.specs.Lent.{Roomier, textOnly}
-use Rattle.demands.specs.Room.{countsIn, AtMost, Exceeds, SameLeft, Suffices}
+use Rattle.demands.specs.Room.{AtMost, Exceeds, SameLeft, Suffices}
 use Rattle.demands.proofs.Cases.{Answered, cases, exactly}
 use Rattle.demands.proofs.Cases.Answered.{too-long, no-text-room, not-readable, no-room, all-read}
 use Rattle.demands.proofs.Fronts.{untouched, same-laid, same-rows}
@@ -43,7 +43,7 @@ refusal-number (Refusal.Line (StrayByte at)) = (omega arith, λ z. omega arith)
 refusal-number Refusal.Unclosed = (omega arith, λ z. omega arith)
 refusal-number Refusal.NoComponent = (omega arith, λ z. omega arith)
 
-more : {a b c : Counts} → AtMost a b → AtMost b c → AtMost a c
+pub more : {a b c : Counts} → AtMost a b → AtMost b c → AtMost a c
 more x y =
     record {
       components = le-trans (x .components) (y .components);
@@ -185,7 +185,7 @@ refusals-suffice feed b = record {
 }
 
 -- tables of exactly so many rows have that room
-exact-room : (c : Counts) → roomFor (componentSize * c .components) (propertySize * c .properties) (parameterSize * c .parameters) ≡ c
+pub exact-room : (c : Counts) → roomFor (componentSize * c .components) (propertySize * c .properties) (parameterSize * c .parameters) ≡ c
 exact-room c =
     rw (
       mul-div-cancel-left (c .components) (component-shape .some),

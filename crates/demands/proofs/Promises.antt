@@ -2,13 +2,14 @@
 -- docs/SPECIFICATION.md that it answers; docs/COVERAGE.md has the rest of what shows them. Each is proved by naming what stands elsewhere.
 -- A number with a letter is a promise that a later request added beside those of the base.
 -- Words: `b` is a text and the words of three tables as they are lent (`Lent`); `readInto feed b` are the six numbers of a reading, `left feed b`
--- what it leaves in b; `toldOf` cuts that to what the numbers tell of; `treesIn b` are the trees that tables stand for.
+-- what it leaves in b; `toldOf` cuts that to what the numbers tell of; `treesIn b` are the trees that tables stand for. `measuringOf feed room` are the six
+-- numbers of measuring with so many bytes of text, `fillFrom b` and `leftFilled b` what filling from the text of b into its tables tells and leaves.
 -- Assumes nothing.
-use mathlib.Core.Path.{_≡_}
+use mathlib.Core.Path.{_≡_, refl, sym}
 use mathlib.Core.Bool.{true, _&&_}
 use mathlib.Core.List.{List, [], _++_, map}
 use mathlib.Core.Logic.{_↔_}
-use Prim.Native.Nat.{ℕ, _≤_, _<_}
+use Prim.Native.Nat.{ℕ, _*_, _≤_, _<_}
 use lib.ListN.{length, drop}
 use Rattle.octets.specs.Bytes.{other, keyByte, ascii}
 use Rattle.octets.specs.Runs.{only}
@@ -16,13 +17,17 @@ use Rattle.octets.specs.All.{All}
 use Rattle.octets.specs.Answers.{longest, done, noTextRoom, noRoom, badEscape, strayByte, notUtf8, output}
 use Rattle.unfolding.specs.Unfold.{unfolded}
 use Rattle.unfolding.proofs.Laws.{Unbroken}
+use Rattle.tables.specs.Rows.{componentSize, propertySize, parameterSize}
 use Rattle.tables.specs.Lent.{Lent, componentsIn, brokenIn, treesIn, treeIn}
 use Rattle.tables.specs.Trees.{Parameter, Property}
 use Rattle.tables.specs.declared.Found.the-variants.{Nothing}
 use Rattle.nesting.specs.Steps.{State, countsOf}
-use Rattle.reading.specs.Answers.{refusal}
-use Rattle.reading.specs.Lent.{roomIn, readInto, left}
+use Rattle.nesting.specs.declared.Counts.{Counts}
+use Rattle.reading.specs.Answers.{told, countsIn, refusal, measuringOf}
+use Rattle.reading.specs.Lent.{roomIn, readInto, left, fillFrom, leftFilled}
+use Rattle.reading.specs.InTurn.{readInTurn, leftInTurn}
 use Rattle.reading.specs.declared.Reading.{Reading}
+use Rattle.reading.proofs.Laws.{unfilled, in-turn}
 use Rattle.folding.specs.Pieces.{physical, Within}
 use Rattle.characters.specs.Utf8.{isUtf8}
 use Rattle.characters.specs.Grammar.{Utf8, IllFormedAt}
@@ -53,6 +58,7 @@ use Rattle.demands.specs.Outputs.{FitTables, RoomDecides, toldBytes}
 use Rattle.demands.specs.Texts.{BadAt}
 use Rattle.demands.specs.Readable.{Readable, ReadTo}
 use Rattle.demands.specs.Room.{AtMost, Exceeds, SameLeft, Suffices}
+use Rattle.demands.specs.Filling.{Needs, MoreRows, MeasuredIn}
 use Rattle.demands.specs.Returning.{linesOf, valuesUtf8, Enough}
 use Rattle.demands.specs.Grammar.{Calendar}
 use Rattle.demands.specs.LineFaults.{StrayAt, BadLine}
@@ -66,6 +72,7 @@ use Rattle.demands.proofs.Grammar.{readable-calendar, answered-broken, 
 use Rattle.demands.proofs.Before.{told-before, became}
 use Rattle.demands.proofs.MeetsRule.{done-meets}
 use Rattle.demands.proofs.MoreRoom.{same-reading, two-exactly, ten-exactly, refusals-suffice, one-two-leave, later-leave}
+use Rattle.demands.proofs.Filling.{never-ten, never-two, more-rows, fill-ten, fill-suffices, measured-suffices, measured-exactly}
 use Rattle.demands.proofs.OutRoom.{strict-room, repository-room, quote-room, text-room, value-room, write-room}
 use Rattle.demands.proofs.Folds.{strict-unfolds, repository-unfolds, strict-75, strict-starts, strict-ascii, strict-uncut, ill-told, told-ill}
 use Rattle.demands.proofs.Characters.{property-utf8, utf8-lines}
@@ -95,11 +102,21 @@ definite = (
 pub text-definite : Determined calls.readText (λ κs r. r) × Determined calls.writeText (λ κs r. r) × Determined calls.compareLooseTwins (λ κs r. r)
 text-definite = (calls.read-text-determined, calls.write-text-determined, calls.compare-loose-twins-determined)
 
+-- 1b. The same of measuring and filling. [R6-01, R6-02]
+pub pair-definite : Determined calls.measureComponents (λ κs r. r) × Determined calls.fillComponents (λ κs r. r)
+pair-definite = (calls.measure-components-determined, calls.fill-components-determined)
+
 -- 2. Refusals 1 and 2 of a reading change nothing lent; 3 to 10, 17 and 18 leave the unfolded text at the front of the text, the bytes behind it as they were,
 -- and no table word changed. [B-37, B-38, R2-01]
 pub refusals-leave : (feed : List ℕ) (b : Lent) → (0 < readInto feed b .answer → readInto feed b .answer ≤ noTextRoom → left feed b ≡ b)
     × (noTextRoom < readInto feed b .answer → left feed b ≡ textOnly feed b)
 refusals-leave feed b = (one-two-leave feed b, later-leave feed b)
+
+-- 2a. Measuring never tells 10, and leaves in the text what the one call leaves, as its contract says; filling never tells 2, leaves the text as it was always,
+-- and the tables unless it is Done. [R6-01, R6-02]
+pub pair-leaves : ((feed text : List ℕ) → measuringOf feed (length text) .answer ≡ noRoom → ⊥)
+    × ((b : Lent) → (fillFrom b .answer ≡ noTextRoom → ⊥) × (leftFilled b .text ≡ b .text) × ((fillFrom b .answer ≡ done → ⊥) → leftFilled b ≡ b))
+pair-leaves = (never-ten, λ b. (never-two (b .text) (roomIn b), refl, λ f. sym (unfilled b refl f)))
 
 -- ---- Demand 2: answers are those of the definitions, and a tree comes back
 
@@ -132,6 +149,11 @@ seven-is-split feed b = (told-before feed b, became feed b)
 -- 6. The numbers, the bytes and the words that a Done reading gives are those of the definition, and read back as they are. [B-73, B-38]
 pub done-gives : (feed : List ℕ) (b : Lent) (s : State) → Readable feed s → length (unfolded feed) ≤ length (b .text) → AtMost (countsOf s) (roomIn b) → ReadTo feed b s
 done-gives feed b = readable-done feed b
+
+-- 6a. The one call is the two in turn: measuring and, where that is Done, filling from the first `length` bytes of the text give the same six numbers, the same
+-- text and the same tables. So each refuses what it refuses: where measuring refuses, the one call does, and where the one call refuses, the pair does. [R6-03]
+pub one-call-is-two : (feed : List ℕ) (b : Lent) → (readInTurn feed b ≡ readInto feed b) × (leftInTurn feed b ≡ left feed b)
+one-call-is-two = in-turn
 
 -- 7. Every Done reading meets the table rule. [B-70]
 pub reading-meets-rule : (feed : List ℕ) (b : Lent) → readInto feed b .answer ≡ done → brokenIn (toldOf (readInto feed b) (left feed b)) ≡ Nothing
@@ -250,6 +272,24 @@ too-little feed b = (two-exactly feed (length (b .text)) (roomIn b), ten-exactly
 -- 17. What they name is enough. [B-76]
 pub counts-are-enough : (feed : List ℕ) (b : Lent) → Suffices feed b
 counts-are-enough = refusals-suffice
+
+-- 17a. The same of filling: more rows change no answer other than 10, no byte and no row; 10 is told exactly where a count exceeds its rows; with the counts
+-- that it names as rows, and the same text, the answer is Done with just them. [R6-04]
+pub rows-decide : ((b b′ : Lent) → MoreRows b b′ → (fillFrom b .answer ≡ noRoom → ⊥)
+    → (fillFrom b′ ≡ fillFrom b) × SameLeft (fillFrom b) b (leftFilled b) b′ (leftFilled b′))
+    × ((b : Lent) → (fillFrom b .answer ≡ noRoom) ↔ ((counts : Counts) × Needs (b .text) counts × Exceeds counts (roomIn b)))
+    × ((b b′ : Lent) → fillFrom b .answer ≡ noRoom → b′ .text ≡ b .text → AtMost (countsIn (fillFrom b)) (roomIn b′)
+    → fillFrom b′ ≡ told done 0 (fillFrom b .length) (countsIn (fillFrom b)))
+rows-decide = (more-rows, λ b. fill-ten (b .text) (roomIn b), λ b b′ e t a. rw t (fill-suffices (b .text) (roomIn b) e (roomIn b′) a))
+
+-- 17b. And the counts that measuring names are enough for filling from the text that it left, which then tells the same six numbers: at least so many rows,
+-- or exactly so many. [R6-04]
+pub measured-is-enough : (feed text : List ℕ) → measuringOf feed (length text) .answer ≡ done → (b : Lent) → MeasuredIn feed text b →
+    let m = measuringOf feed (length text) in
+    (AtMost (countsIn m) (roomIn b) → fillFrom b ≡ m)
+    × (length (b .components) ≡ componentSize * m .components → length (b .properties) ≡ propertySize * m .properties
+    → length (b .parameters) ≡ parameterSize * m .parameters → fillFrom b ≡ m)
+measured-is-enough feed text e b is = (measured-suffices feed text e b is, measured-exactly feed text e b is)
 
 -- 18. The same of the writer, of both folds and of quoting: more room changes nothing but 13, which is told exactly where there is too little, with
 -- the length that is enough; a refusal leaves the buffer as it was. [B-39, B-74 to B-76]

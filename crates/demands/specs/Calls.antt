@@ -69,6 +69,9 @@ partOf r = record { bytes = now r; place = ptr r }
 abbrev pub lentIn : {Rest : Type 0} → RefT (List ℕ) × (RefT (List ℕ) × (RefT (List ℕ) × (RefT (List ℕ) × Rest))) → Lent
 lentIn a = lent (now (a .0)) (now (a .1 .0)) (now (a .1 .1 .0)) (now (a .1 .1 .1 .0))
 
--- what each of them holds at exit, before what is lent behind them
+-- what each of the tables holds at exit, before what is lent behind them; and the text before them, where it can change
+abbrev pub tablesIn : {Rest : Type 0} → Lent → Rest → List ℕ × (List ℕ × (List ℕ × Rest))
+tablesIn b rest = (b .components, (b .properties, (b .parameters, rest)))
+
 abbrev pub leftIn : {Rest : Type 0} → Lent → Rest → List ℕ × (List ℕ × (List ℕ × (List ℕ × Rest)))
-leftIn b rest = (b .text, (b .components, (b .properties, (b .parameters, rest))))
+leftIn b rest = (b .text, tablesIn b rest)

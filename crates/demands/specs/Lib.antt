@@ -12,3 +12,4 @@ pub mod GrammarRefusals
 pub mod Before
 pub mod Examples
 pub mod Calls
+pub mod Filling

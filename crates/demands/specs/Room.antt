@@ -7,14 +7,10 @@ use lib.ListN.{length, take, drop}
 use Rattle.octets.specs.Answers.{done, noTextRoom, noRoom}
 use Rattle.tables.specs.Rows.{componentSize, propertySize, parameterSize}
 use Rattle.nesting.specs.declared.Counts.{Counts}
-use Rattle.reading.specs.Answers.{told}
+use Rattle.reading.specs.Answers.{told, countsIn}
 use Rattle.reading.specs.Lent.{roomIn, readInto}
 use Rattle.reading.specs.declared.Reading.{Reading}
 use Rattle.tables.specs.Lent.{Lent}
-
--- the three counts that a reading names
-abbrev pub countsIn : Reading → Counts
-countsIn r = record { components = r .components; properties = r .properties; parameters = r .parameters }
 
 -- each count is at most the other's
 pub record AtMost (counts room : Counts) : Type 0 where
