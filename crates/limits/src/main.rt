@@ -12,6 +12,25 @@ fn say_output(o: Output) {
     say(b"\n");
 }
 
+fn fill_one(text: &[u8]) {
+    let mut components = [0u32; 4];
+    let mut properties = [0u32; 5];
+    let mut parameters = [0u32; 0];
+    say_reading(reading::fill_components(text, &mut components, &mut properties, &mut parameters));
+}
+
+// A feed of so many bytes in two calls. It has no fold, so that the text has as many.
+fn in_two_calls(size: usize, feed: &[u8; trial::OVER], text: &mut [u8; trial::OVER]) {
+    say(b"measuring");
+    say_number(size);
+    say(b" bytes:");
+    say_reading(reading::measure_components(octets::view(feed, 0, size), text));
+    say(b"filling from");
+    say_number(size);
+    say(b" bytes:");
+    fill_one(octets::view(text, 0, size));
+}
+
 // An array of this size is lent as a slice only by way of a function that takes the array.
 fn longest_values(value: &[u8; trial::OVER], out: &mut [u8; trial::OVER]) {
     say(b"quoting 1048576 bytes:");
@@ -251,8 +270,10 @@ fn main() {
     let mut text = [0u8; trial::OVER];
     say(b"feed of 1048576 bytes:");
     trial::read_long(1048576, &mut feed, &mut text);
+    in_two_calls(1048576, &feed, &mut text);
     say(b"feed of 1048577 bytes:");
     trial::read_long(1048577, &mut feed, &mut text);
+    in_two_calls(1048577, &feed, &mut text);
     let mut line = [b'a'; trial::OVER];
     longest_values(&line, &mut text);
     longest_texts(&line, &mut text);

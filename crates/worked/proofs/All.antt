@@ -14,7 +14,7 @@ use Rattle.tables.specs.Rows.{tabulate, flat}
 use Rattle.tables.specs.TableRule.{broken, firstBroken, outFrom}
 use Rattle.tables.specs.Trees.{gather, forest}
 use Rattle.nesting.specs.Steps as steps
-use Rattle.reading.specs.Answers.{readingOf, textAfter}
+use Rattle.reading.specs.Answers.{readingOf, measuringOf, fillingOf, textAfter}
 use Rattle.folding.specs.Pieces as pieces
 use Rattle.characters.specs.Units.{unitsFrom}
 use Rattle.characters.specs.Utf8.{soundLen}
@@ -32,6 +32,7 @@ use Rattle.worked.specs.Cases.{rising, turning, repeated, nested, comesT
 use Rattle.worked.specs.Reading as reading
 use Rattle.worked.specs.ReadingRoom as reading-room
 use Rattle.worked.specs.ReadingRefused as reading-refused
+use Rattle.worked.specs.Pair as pair
 use Rattle.worked.specs.Folding as folding
 use Rattle.worked.specs.Quoting as quoting
 use Rattle.worked.specs.Texts as texts
@@ -131,6 +132,18 @@ pub no-component : wrong reading-refused.noComponentCases ≡ []
 unfolding bytes comesTrue wrong rising turning unfoldedAfter sameBytes startsWord run quotedLen furtherAfter formOf paramOf frontOf paramsAfter paramsUsed
     linesAfter lineOf flat steps.readLines steps.outcomeOf readingOf textAfter
 no-component = refl
+
+-- ---- reading in two calls: measuring, which is lent no table and never gives 10, and filling, which never gives 2 and leaves the text
+
+pub measured : wrong pair.measured ≡ []
+unfolding bytes comesTrue wrong repeated turning unfoldedAfter sameBytes startsWord run quotedLen furtherAfter formOf paramOf frontOf paramsAfter paramsUsed
+    linesAfter lineOf steps.readLines steps.outcomeOf measuringOf textAfter
+measured = refl
+
+pub filled : wrong pair.filled ≡ []
+unfolding bytes comesTrue wrong repeated rising sameBytes startsWord run quotedLen furtherAfter formOf paramOf frontOf paramsAfter paramsUsed linesAfter
+    lineOf flat steps.readLines steps.outcomeOf fillingOf
+filled = refl
 
 -- ---- the two folds: Done (0), an LF (11), a byte of 128 or more (12), an ill-formed character (19), too little room (13), and their order
 

@@ -14,8 +14,8 @@ use Rattle.octets.specs.declared.Output.{Output}
 use Rattle.unfolding.specs.Unfold.{unfolded}
 use Rattle.tables.specs.Lent.{Lent, brokenIn}
 use Rattle.tables.specs.declared.Found.the-variants.{Nothing}
-use Rattle.reading.specs.Answers.{readText, readingOf, textAfter}
-use Rattle.reading.specs.Lent.{roomIn, readInto, left}
+use Rattle.reading.specs.Answers.{measureText, readText, readingOf, measuringOf, fillingOf, textAfter}
+use Rattle.reading.specs.Lent.{roomIn, readInto, left, fillFrom, leftFilled}
 use Rattle.folding.specs.Answers.{lineAnswer, foldAnswer, foldOut}
 use Rattle.quoting.specs.Answers.{quoteAnswer, quoteOut}
 use Rattle.escapes.specs.Text.{textOf, asValue}
@@ -41,6 +41,36 @@ module _ (feed : List ℕ) (b : Lent) where
   pub within : length feed ≤ 1048576 → length (unfolded feed) ≤ length (b .text) → readInto feed b ≡ readText (unfolded feed) (roomIn b)
   unfolding readingOf
   within feed-fits text-fits = rw (le-leb (length feed) 1048576 feed-fits, le-leb (length (unfolded feed)) (length (b .text)) text-fits)
+
+-- measuring: "measuring gives 1 to 9 and later line refusals, with the same changes to the text"
+module _ (feed text : List ℕ) where
+  pub measured-too-long : 1048576 < length feed → sixNumbers (measuringOf feed (length text)) ≡ 1 ∷ 0 ∷ 0 ∷ 0 ∷ 0 ∷ 0 ∷ []
+  unfolding measuringOf
+  measured-too-long over = rw (lt-leb (length feed) 1048576 over)
+
+  pub measured-too-long-leaves : 1048576 < length feed → textAfter feed text ≡ text
+  unfolding textAfter
+  measured-too-long-leaves over = rw (lt-leb (length feed) 1048576 over)
+
+  -- at the limit the feed is measured
+  pub measured-within : length feed ≤ 1048576 → length (unfolded feed) ≤ length text → measuringOf feed (length text) ≡ measureText (unfolded feed)
+  unfolding measuringOf
+  measured-within feed-fits text-fits = rw (le-leb (length feed) 1048576 feed-fits, le-leb (length (unfolded feed)) (length text) text-fits)
+
+-- filling: "filling gives 1, 3 to 10 and those too, and leaves the text unchanged always": the limit is on the text that is lent (C-74)
+module _ (b : Lent) where
+  pub filled-too-long : 1048576 < length (b .text) → sixNumbers (fillFrom b) ≡ 1 ∷ 0 ∷ 0 ∷ 0 ∷ 0 ∷ 0 ∷ []
+  unfolding fillingOf
+  filled-too-long over = rw (lt-leb (length (b .text)) 1048576 over)
+
+  pub filled-too-long-leaves : 1048576 < length (b .text) → leftFilled b ≡ b
+  unfolding fillingOf
+  filled-too-long-leaves over = rw (lt-leb (length (b .text)) 1048576 over)
+
+  -- at the limit the text is read
+  pub filled-within : length (b .text) ≤ 1048576 → fillFrom b ≡ readText (b .text) (roomIn b)
+  unfolding fillingOf
+  filled-within fits = rw (le-leb (length (b .text)) 1048576 fits)
 
 -- either fold, whatever bytes it takes: "Order in a fold: 1, 11, 12, 13", and 19 in the place of 12
 module _ (number : ℕ) (sound : List ℕ → ℕ) (fold : List ℕ → List ℕ) (line old : List ℕ) (over : 1048576 < length line) where

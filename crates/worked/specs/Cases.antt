@@ -23,7 +23,8 @@ use Rattle.parameters.specs.declared.Value.the-variants.{Absent, Present}
 use Rattle.parameters.specs.declared.Front.{Front}
 use Rattle.parameters.specs.declared.Front.the-variants.{NoParameter, Found}
 use Rattle.tables.specs.Lent.{Lent, lent}
-use Rattle.reading.specs.Lent.{readInto, left}
+use Rattle.reading.specs.Answers.{measuringOf, textAfter}
+use Rattle.reading.specs.Lent.{readInto, left, fillFrom, leftFilled}
 use Rattle.reading.specs.declared.Reading.{Reading}
 use Rattle.folding.specs.Answers.{strictLine, repositoryLine, foldAnswer, foldOut}
 use Rattle.folding.specs.Repository.{repository}
@@ -70,6 +71,10 @@ parameters₀ n = rising n 920001
 abbrev pub room : ℕ → ℕ → ℕ → ℕ → Lent
 room text components properties parameters = lent (bytes₀ text) (components₀ components) (properties₀ properties) (parameters₀ parameters)
 
+-- this text, and three tables of so many words
+abbrev pub tablesFor : List ℕ → ℕ → ℕ → ℕ → Lent
+tablesFor text components properties parameters = lent text (components₀ components) (properties₀ properties) (parameters₀ parameters)
+
 unfoldable pub repeated : ℕ → List ℕ → List ℕ
 repeated zero xs = []
 repeated (suc n) xs = xs ++ repeated n xs
@@ -88,6 +93,10 @@ nested step offset (suc n) parent row = parent ∷ (row + 1) ∷ (step * row + o
 pub data Claim : Type 0 where
   -- a feed read into these buffers gives six numbers, and leaves the buffers so
   reads : (feed : List ℕ) (before : Lent) (numbers : List ℕ) (after : Lent) → Claim
+  -- a feed measured into this text gives six numbers, and leaves the text so
+  measures : (feed before numbers after : List ℕ) → Claim
+  -- filling these tables from the text beside them gives six numbers, and leaves text and tables so
+  fills : (before : Lent) (numbers : List ℕ) (after : Lent) → Claim
   -- the repository's fold of a line into this buffer gives three numbers, and leaves the buffer so
   folds : (line before numbers after : List ℕ) → Claim
   -- so does the strict fold
@@ -118,6 +127,10 @@ pub data Claim : Type 0 where
 -- a refusal that leaves the three tables as they were
 abbrev pub refuses : List ℕ → Lent → List ℕ → List ℕ → Claim
 refuses feed before numbers text = reads feed before numbers (lent text (before .components) (before .properties) (before .parameters))
+
+-- a refusal of filling, which leaves all as it was
+abbrev pub fillsNothing : Lent → List ℕ → Claim
+fillsNothing before numbers = fills before numbers before
 
 pub record Case : Type 0 where
   pub name : strings.String
@@ -167,6 +180,9 @@ comesOut o out numbers after = sameBytes (threeNumbers o) numbers && sameBytes o
 
 unfoldable pub comesTrue : Claim → Bool
 comesTrue (reads feed before numbers after) = sameBytes (sixNumbers (readInto feed before)) numbers && sameLent (left feed before) after
+comesTrue (measures feed before numbers after) =
+    sameBytes (sixNumbers (measuringOf feed (length before))) numbers && sameBytes (textAfter feed before) after
+comesTrue (fills before numbers after) = sameBytes (sixNumbers (fillFrom before)) numbers && sameLent (leftFilled before) after
 comesTrue (folds line before numbers after) = comesOut (foldAnswer repositoryLine repository line (length before)) (foldOut repositoryLine repository line before) numbers after
 comesTrue (foldsStrictly line before numbers after) = comesOut (foldAnswer strictLine strict line (length before)) (foldOut strictLine strict line before) numbers after
 comesTrue (quotes value before numbers after) = comesOut (quoteAnswer value (length before)) (quoteOut value before) numbers after

@@ -2,6 +2,7 @@ pub mod Cases
 pub mod Reading
 pub mod ReadingRoom
 pub mod ReadingRefused
+pub mod Pair
 pub mod Folding
 pub mod Quoting
 pub mod Texts

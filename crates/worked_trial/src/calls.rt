@@ -57,6 +57,40 @@ pub fn read(case: &[u8], feed: &[u8], text: &mut [u8]) {
     );
 }
 
+pub fn measure(feed: &[u8], text: &mut [u8]) {
+    let r = reading::measure_components(feed, text);
+    say_six(r);
+    say(b", text");
+    say_bytes(text);
+}
+
+// Fills these tables from a text, and prints what they hold then.
+fn fill_lent(text: &[u8], components: &mut [u32], properties: &mut [u32], parameters: &mut [u32]) {
+    let r = reading::fill_components(text, components, properties, parameters);
+    say_six(r);
+    say_tables(components, properties, parameters);
+}
+
+// In place of the room stand the words of the three tables.
+pub fn fill(case: &[u8], text: &[u8]) {
+    let words = field(case, 3);
+    let mut components = [0u32; WORDS];
+    let mut properties = [0u32; WORDS];
+    let mut parameters = [0u32; WORDS];
+    fill_components(&mut components);
+    fill_properties(&mut properties);
+    fill_parameters(&mut parameters);
+    let c = octets::least(number(words, 0), WORDS);
+    let p = octets::least(number(words, 1), WORDS);
+    let q = octets::least(number(words, 2), WORDS);
+    fill_lent(
+        text,
+        &mut components[0..c],
+        &mut properties[0..p],
+        &mut parameters[0..q],
+    );
+}
+
 pub fn fold(bytes: &[u8], out: &mut [u8]) {
     let o = folding::fold_line(bytes, out);
     say_output(o, out);

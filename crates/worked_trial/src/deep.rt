@@ -38,13 +38,52 @@ fn read_feed(feed: &[u8]) {
     read_lent(feed, &mut text[0..room], &mut components);
 }
 
-// 64 lines `BEGIN:A`, then these bytes, and so many lines `END:A`.
+// 64 lines `BEGIN:A`, then these bytes, and so many lines `END:A`. Counts the bytes.
+fn nest(case: &[u8], bytes: &[u8], feed: &mut [u8]) -> usize {
+    let opened = trial::repeat(b"BEGIN:A\n", 64, feed, 0);
+    let middle = octets::lay(bytes, feed, opened);
+    trial::repeat(b"END:A\n", number(field(case, 3), 0), feed, middle)
+}
+
 pub fn read(case: &[u8], bytes: &[u8]) {
     let mut feed = [0u8; DEEP];
-    let opened = trial::repeat(b"BEGIN:A\n", 64, &mut feed, 0);
-    let middle = octets::lay(bytes, &mut feed, opened);
-    let end = trial::repeat(b"END:A\n", number(field(case, 3), 0), &mut feed, middle);
+    let end = nest(case, bytes, &mut feed);
     read_feed(octets::view(&feed, 0, end));
+}
+
+fn measure_lent(feed: &[u8], text: &mut [u8]) {
+    let r = reading::measure_components(feed, text);
+    say_six(r);
+    say(b", text ends ");
+    say_last(text, 16);
+}
+
+// Measures such a feed into a text of two bytes more. The end of the text is printed.
+pub fn measure(case: &[u8], bytes: &[u8]) {
+    let mut feed = [0u8; DEEP];
+    let end = nest(case, bytes, &mut feed);
+    let mut text = [0u8; DEEP];
+    fill_bytes(&mut text);
+    let room = octets::least(octets::count_on(end, 2), DEEP);
+    measure_lent(octets::view(&feed, 0, end), &mut text[0..room]);
+}
+
+fn fill_lent(text: &[u8], components: &mut [u32]) {
+    let mut properties = [0u32; 6];
+    let mut parameters = [0u32; 7];
+    let r = reading::fill_components(text, components, &mut properties, &mut parameters);
+    say_six(r);
+    say(b", components end");
+    say_last_words(components, 8);
+}
+
+// Fills rows for 65 components from such a text. The end of them is printed.
+pub fn fill(case: &[u8], bytes: &[u8]) {
+    let mut text = [0u8; DEEP];
+    let end = nest(case, bytes, &mut text);
+    let mut components = [0u32; ROWS];
+    fill_components(&mut components);
+    fill_lent(octets::view(&text, 0, end), &mut components);
 }
 
 // How many components stand inside each other, and behind the room the words of the properties.

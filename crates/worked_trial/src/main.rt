@@ -25,7 +25,7 @@ const BYTES: usize = 160;
 fn call(case: &[u8], bytes: &[u8], out: &mut [u8]) {
     let call = which(
         field(case, 0),
-        b"read|fold|fold strictly|quote|write|unfold|view|key|parameter|read deep|write deep|",
+        b"read|fold|fold strictly|quote|write|unfold|view|key|parameter|read deep|write deep|measure|fill|measure deep|fill deep|",
     );
     match call {
         0 => calls::read(case, bytes, out),
@@ -39,11 +39,15 @@ fn call(case: &[u8], bytes: &[u8], out: &mut [u8]) {
         8 => calls::parameter(bytes),
         9 => deep::read(case, bytes),
         10 => deep::write(case, out),
+        11 => calls::measure(bytes, out),
+        12 => calls::fill(case, bytes),
+        13 => deep::measure(case, bytes),
+        14 => deep::fill(case, bytes),
         _ => say(b" NO SUCH CALL"),
     }
 }
 
-// The third field has the bytes, and the fourth begins with the room of the buffer.
+// The third field has the bytes, and the fourth begins with the room of the buffer, if the call has one.
 fn run(case: &[u8]) {
     let mut bytes = [0u8; BYTES];
     let n = lay_bytes(field(case, 2), &mut bytes);
