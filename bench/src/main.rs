@@ -56,7 +56,7 @@ fn times(row: &Row, kind: &str, bytes: usize) {
         (row.ours)(&parts, &mut lent, &mut clock);
         ours = ours.min(clock.seconds);
         spent += clock.seconds;
-        (row.theirs)(&parts, &mut clock);
+        (row.theirs)(&parts, &mut lent, &mut clock);
         theirs = theirs.min(clock.seconds);
         spent += clock.seconds;
         turns += 1;
@@ -80,7 +80,7 @@ fn run_to(place: &str, side: &str, name: &str, kind: &str, bytes: usize) {
     let mut clock = Clock::new(if place == "start" { Measure::EndAtStart } else { Measure::EndAtStop });
     match side {
         "ours" => (row.ours)(&parts, &mut lent, &mut clock),
-        _ => (row.theirs)(&parts, &mut clock),
+        _ => (row.theirs)(&parts, &mut lent, &mut clock),
     }
 }
 
@@ -89,6 +89,6 @@ fn stack(row: &Row, kind: &str, bytes: usize) {
     let mut clock = Clock::new(Measure::Stack);
     (row.ours)(&parts, &mut lent, &mut clock);
     let ours = clock.stack;
-    (row.theirs)(&parts, &mut clock);
+    (row.theirs)(&parts, &mut lent, &mut clock);
     println!("{:8}{kind:10}{bytes:9}{ours:9}{:9}", row.name, clock.stack);
 }

@@ -15,6 +15,18 @@ unsafe extern "C" {
         parameters_len: usize,
         numbers: *mut [usize; 6],
     );
+    fn hawniretem_measure(feed: *const u8, feed_len: usize, text: *mut u8, text_len: usize, numbers: *mut [usize; 6]);
+    fn hawniretem_fill(
+        text: *const u8,
+        text_len: usize,
+        components: *mut u32,
+        components_len: usize,
+        properties: *mut u32,
+        properties_len: usize,
+        parameters: *mut u32,
+        parameters_len: usize,
+        numbers: *mut [usize; 6],
+    );
     fn hawniretem_fold_line(line: *const u8, line_len: usize, out: *mut u8, out_len: usize, numbers: *mut [usize; 3]);
     fn hawniretem_fold_strict(line: *const u8, line_len: usize, out: *mut u8, out_len: usize, numbers: *mut [usize; 3]);
     fn hawniretem_quote(value: *const u8, value_len: usize, out: *mut u8, out_len: usize, numbers: *mut [usize; 3]);
@@ -118,6 +130,38 @@ pub fn read(feed: &[u8], lent: &mut Lent) -> [usize; 6] {
         )
     }
     numbers
+}
+
+/// The numbers that filling told, and tables of just the rows that measuring told.
+pub struct Filled {
+    pub numbers: [usize; 6],
+    pub components: Vec<u32>,
+    pub properties: Vec<u32>,
+    pub parameters: Vec<u32>,
+}
+
+/// Measures, allocates and fills; a feed that measuring refuses has no rows.
+pub fn measure_and_fill(feed: &[u8], text: &mut [u8]) -> Filled {
+    let mut numbers = [0; 6];
+    unsafe { hawniretem_measure(feed.as_ptr(), feed.len(), text.as_mut_ptr(), text.len(), &mut numbers) }
+    let [answer, _, length, c, p, q] = numbers;
+    let (mut components, mut properties, mut parameters) = (vec![0; 4 * c], vec![0; 5 * p], vec![0; 6 * q]);
+    if answer == 0 {
+        unsafe {
+            hawniretem_fill(
+                text.as_ptr(),
+                length,
+                components.as_mut_ptr(),
+                components.len(),
+                properties.as_mut_ptr(),
+                properties.len(),
+                parameters.as_mut_ptr(),
+                parameters.len(),
+                &mut numbers,
+            )
+        }
+    }
+    Filled { numbers, components, properties, parameters }
 }
 
 pub fn fold_line(line: &[u8], out: &mut [u8]) -> [usize; 3] {

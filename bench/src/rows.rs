@@ -15,8 +15,8 @@ pub struct Row {
     /// What the work is done on, of a feed.
     pub parts: fn(String) -> Vec<String>,
     pub ours: fn(&[String], &mut Lent, &mut Clock),
-    /// The Rust, or in the row `libical` that library.
-    pub theirs: fn(&[String], &mut Clock),
+    /// The Rust, in the row `libical` that library, and in the row `pair` our one call. What is lent is for that one alone.
+    pub theirs: fn(&[String], &mut Lent, &mut Clock),
     /// Whether both sides give the same, in whole; of libical's answer the rows are counted.
     pub same: fn(&[String], &mut Lent) -> bool,
 }
@@ -35,6 +35,7 @@ pub const ROWS: &[Row] = &[
     UNFOLD,
     READ,
     READ_LOWER,
+    PAIR,
     FOLD,
     STRICT,
     QUOTE,
@@ -58,7 +59,7 @@ const UNFOLD: Row = Row {
         black_box(ours::unfold(feed, &mut lent.text));
         clock.stop();
     },
-    theirs: |parts, clock| {
+    theirs: |parts, _, clock| {
         let feed = black_box(parts[0].as_str());
         clock.start();
         let text = black_box(unfold(feed));
@@ -76,7 +77,7 @@ const READ: Row = Row {
     feeds: FEEDS,
     parts: |feed| vec![feed],
     ours: our_read,
-    theirs: |parts, clock| {
+    theirs: |parts, _, clock| {
         let feed = black_box(parts[0].as_str());
         clock.start();
         let text = unfold(feed);
@@ -95,12 +96,39 @@ const READ: Row = Row {
 /// Where keys are no capital letters, each byte of them is looked at by itself.
 const READ_LOWER: Row = Row { feeds: &[("lower", 1 << 20)], ..READ };
 
+/// Measuring, allocating just the rows that it told, and filling, beside the one call into tables that stand ready.
+const PAIR: Row = Row {
+    name: "pair",
+    feeds: FEEDS,
+    parts: |feed| vec![feed],
+    ours: |parts, lent, clock| {
+        let feed = black_box(parts[0].as_bytes());
+        clock.start();
+        let filled = black_box(ours::measure_and_fill(feed, &mut lent.text));
+        clock.stop();
+        drop(filled);
+    },
+    theirs: our_read,
+    same: |parts, lent| {
+        let feed = parts[0].as_bytes();
+        let numbers = ours::read(feed, lent);
+        let mut text = vec![0; lent.text.len()];
+        let filled = ours::measure_and_fill(feed, &mut text);
+        numbers[0] == 0
+            && filled.numbers == numbers
+            && text[..numbers[2]] == lent.text[..numbers[2]]
+            && filled.components == lent.components[..4 * numbers[3]]
+            && filled.properties == lent.properties[..5 * numbers[4]]
+            && filled.parameters == lent.parameters[..6 * numbers[5]]
+    },
+};
+
 const FOLD: Row = Row {
     name: "fold",
     feeds: FEEDS,
     parts: |feed| unfold(&feed).lines().map(str::to_owned).collect(),
     ours: |lines, lent, clock| over_all(ours::fold_line, lines, lent, clock),
-    theirs: |lines, clock| each(folded, lines, clock),
+    theirs: |lines, _, clock| each(folded, lines, clock),
     same: |lines, lent| all_same(ours::fold_line, folded, lines, lent),
 };
 
@@ -131,7 +159,7 @@ const QUOTE: Row = Row {
     feeds: FEEDS,
     parts: |feed| values(&feed),
     ours: |values, lent, clock| over_all(ours::quote, values, lent, clock),
-    theirs: |values, clock| each(quoted, values, clock),
+    theirs: |values, _, clock| each(quoted, values, clock),
     same: |values, lent| all_same(ours::quote, quoted, values, lent),
 };
 
@@ -153,7 +181,7 @@ const WRITE: Row = Row {
         black_box(ours::write(black_box(told), lent));
         clock.stop();
     },
-    theirs: |parts, clock| {
+    theirs: |parts, _, clock| {
         let text = unfold(&parts[0]);
         let tree = read_component(&text).unwrap();
         clock.start();
@@ -181,7 +209,7 @@ const TWINS: Row = Row {
         black_box(ours::neighbours(black_box(told), lent));
         clock.stop();
     },
-    theirs: |parts, clock| {
+    theirs: |parts, _, clock| {
         let text = unfold(&parts[0]);
         let tree = read_component(&text).unwrap();
         clock.start();
@@ -211,7 +239,7 @@ const ORDERS: Row = Row {
         black_box(ours::neighbours(black_box(told), lent));
         clock.stop();
     },
-    theirs: |parts, clock| {
+    theirs: |parts, _, clock| {
         let text = unfold(&parts[0]);
         let tree = read_component(&text).unwrap();
         clock.start();
@@ -261,7 +289,7 @@ const TEXT: Row = Row {
     feeds: TEXTS,
     parts: |feed| values(&feed).iter().map(|value| escaped(value)).collect(),
     ours: |values, lent, clock| over_all(ours::read_text, values, lent, clock),
-    theirs: |values, clock| each(unescaped_own, values, clock),
+    theirs: |values, _, clock| each(unescaped_own, values, clock),
     same: |values, lent| all_same(ours::read_text, unescaped_own, values, lent),
 };
 
@@ -271,7 +299,7 @@ const ESCAPE: Row = Row {
     feeds: TEXTS,
     parts: |feed| values(&feed),
     ours: |texts, lent, clock| over_all(ours::write_text, texts, lent, clock),
-    theirs: |texts, clock| each(escaped, texts, clock),
+    theirs: |texts, _, clock| each(escaped, texts, clock),
     same: |texts, lent| all_same(ours::write_text, escaped, texts, lent),
 };
 
@@ -286,7 +314,7 @@ const LOOSE: Row = Row {
         black_box(ours::loose_twins(black_box(told), lent));
         clock.stop();
     },
-    theirs: |parts, clock| {
+    theirs: |parts, _, clock| {
         let text = unfold(&parts[0]);
         let tree = read_component(&text).unwrap();
         clock.start();
@@ -327,7 +355,7 @@ const LIBICAL: Row = Row {
     feeds: FEEDS,
     parts: |feed| vec![feed],
     ours: our_read,
-    theirs: |parts, clock| {
+    theirs: |parts, _, clock| {
         let feed = black_box(libical::string(&parts[0]));
         clock.start();
         let tree = black_box(libical::parse(&feed));

@@ -8,7 +8,7 @@ use mathlib.Core.Logic.{_↔_}
 use Prim.Native.Nat.{ℕ, _*_, _/_, _≤_, zero-le}
 use native.Mathlib.Nat.{le-refl}
 use native.Mathlib.Omega.{arith}
-use lib.ListN.{length, take}
+use lib.ListN.{length}
 use lib.Dec.{leb}
 use borrow.Author.Tests.{le-leb, leb-true}
 use Rattle.octets.specs.Choice.{pick}
@@ -21,10 +21,9 @@ use Rattle.tables.specs.Lent.{Lent, lent}
 use Rattle.tables.proofs.Laws.{Shape, component-shape, property-shape, parameter-shape}
 use Rattle.nesting.specs.Steps.{outcomeOf}
 use Rattle.nesting.specs.declared.Counts.{Counts}
-use Rattle.nesting.specs.declared.Refusal.{Refusal}
 use Rattle.nesting.specs.declared.Outcome.{Outcome}
 use Rattle.nesting.specs.declared.Outcome.the-variants.{Read, Refused}
-use Rattle.reading.specs.Answers.{numberOf, placeOf, told, countsIn, refusal, fits, answered, byRoom, measureText, measuringOf, fillingOf, textAfter}
+use Rattle.reading.specs.Answers.{numberOf, placeOf, told, countsIn, refusal, fits, answered, measureText, measuringOf, fillingOf}
 use Rattle.reading.specs.Lent.{roomIn, fillFrom, leftFilled}
 use Rattle.reading.specs.declared.Reading.{Reading}
 use Rattle.reading.proofs.Laws.{read-to-end, unfilled, was-counted, counted-text, measured, text-answers, lent-text}

@@ -2,7 +2,7 @@
 use mathlib.Core.Path.{_≡_, refl, sym, ap, subst, _∙_}
 use mathlib.Core.Bool.{Bool, true, false}
 use mathlib.Core.List.{List, _++_}
-use Prim.Native.Nat.{ℕ, _+_, _-_, _*_, _/_, _≤_, _<_}
+use Prim.Native.Nat.{ℕ, _+_, _-_, _*_, _/_, _≤_, _<_, zero-le}
 use native.Mathlib.Nat.{le-div-iff-mul-le, mul-comm}
 use native.Mathlib.Omega.{arith}
 use lib.ListN.{length, take, drop}
@@ -83,40 +83,6 @@ module _ {A : Type 0} {size : ℕ} {words : A → List ℕ} {from : List ℕ →
   filled rows n old new e t held =
       held ∙ all-put size words shape rows old (room-for size (length rows) (length old) (shape .some) (rw e at (leb-true n (length old / size) t)))
 
--- ---- a text by itself, and with tables
-
-module _ (text : List ℕ) where
-  pub refused-text : (r : Refusal) (from : ℕ) → outcomeOf text ≡ Refused r from → refusal (numberOf r) (placeOf r from) (length text) ≡ measureText text
-  refused-text r from e = rw e
-
-  pub counted-text : (counts : Counts) → outcomeOf text ≡ Read counts → told done 0 (length text) counts ≡ measureText text
-  counted-text counts e = rw e
-
-  -- all of the text is measured
-  pub measured-length : measureText text .length ≡ length text
-  measured-length = go (outcomeOf text)
-    where
-      go : (o : Outcome) → answered o (length text) (λ counts. done) .length ≡ length text
-      go (Refused r from) = refl
-      go (Read counts) = refl
-
-  -- what measuring refuses is refused with tables too
-  pub refused-with : (room : Counts) → (measureText text .answer ≡ done → ⊥) → measureText text ≡ readText text room
-  refused-with room = go (outcomeOf text)
-    where
-      go : (o : Outcome) → (answered o (length text) (λ counts. done) .answer ≡ done → ⊥)
-          → answered o (length text) (λ counts. done) ≡ answered o (length text) (byRoom room)
-      go (Refused r from) f = refl
-      go (Read counts) f = absurd (f refl)
-
-  -- what it counts has these counts
-  pub was-counted : measureText text .answer ≡ done → outcomeOf text ≡ Read (countsIn (measureText text))
-  was-counted e = go (outcomeOf text) refl e
-    where
-      go : (o : Outcome) → outcomeOf text ≡ o → answered o (length text) (λ counts. done) .answer ≡ done → outcomeOf text ≡ Read (countsIn (measureText text))
-      go (Refused r from) f e = absurd (eqb-false (numberOf r) done (refusal-number r) e)
-      go (Read counts) f e = f ∙ rw f
-
 -- ---- the place of a refusal
 
 -- a line is refused within the text
@@ -157,6 +123,68 @@ place-inside text r from e = go (runOf text) refl e
         let same : x ≡ r = cc in
         let there : start ≡ from = cc in
         line-place text r from (refused-line text r from (rw (same, there) at f))
+
+-- ---- a text by itself, and with tables
+
+module _ (text : List ℕ) where
+  -- all of the text is measured, and a place is in it
+  pub measured-length : measureText text .length ≡ length text
+  measured-length = go (outcomeOf text)
+    where
+      go : (o : Outcome) → answered o (length text) (λ counts. done) .length ≡ length text
+      go (Refused r from) = refl
+      go (Read counts) = refl
+
+  pub measured-place : measureText text .place ≤ length text
+  measured-place = go (outcomeOf text) refl
+    where
+      go : (o : Outcome) → outcomeOf text ≡ o → answered o (length text) (λ counts. done) .place ≤ length text
+      go (Refused r from) e = place-inside text r from e
+      go (Read counts) e = zero-le
+
+  -- what it counts has these counts
+  pub counted-text : (counts : Counts) → outcomeOf text ≡ Read counts → told done 0 (length text) counts ≡ measureText text
+  counted-text counts e = rw e
+
+  pub was-counted : measureText text .answer ≡ done → outcomeOf text ≡ Read (countsIn (measureText text))
+  was-counted e = go (outcomeOf text) refl e
+    where
+      go : (o : Outcome) → outcomeOf text ≡ o → answered o (length text) (λ counts. done) .answer ≡ done → outcomeOf text ≡ Read (countsIn (measureText text))
+      go (Refused r from) f e = absurd (eqb-false (numberOf r) done (refusal-number r) e)
+      go (Read counts) f e = f ∙ rw f
+
+module _ (text : List ℕ) (room : Counts) where
+  -- what measuring refuses is refused with tables too
+  pub refused-with : (measureText text .answer ≡ done → ⊥) → measureText text ≡ readText text room
+  refused-with = go (outcomeOf text)
+    where
+      go : (o : Outcome) → (answered o (length text) (λ counts. done) .answer ≡ done → ⊥)
+          → answered o (length text) (λ counts. done) ≡ answered o (length text) (byRoom room)
+      go (Refused r from) f = refl
+      go (Read counts) f = absurd (f refl)
+
+  -- what it counts fits the tables, or does not
+  pub room-answers : {m : Reading} → m ≡ measureText text → m .answer ≡ done → (t : Bool) → fits (countsIn m) room ≡ t
+      → told (pick t done noRoom) (m .place) (m .length) (countsIn m) ≡ readText text room
+  room-answers {m} is e t f = go (outcomeOf text) refl is
+    where
+      go : (o : Outcome) → outcomeOf text ≡ o → m ≡ answered o (length text) (λ counts. done)
+          → told (pick t done noRoom) (m .place) (m .length) (countsIn m) ≡ readText text room
+      go (Refused r from) g is = absurd (eqb-false (numberOf r) done (refusal-number r) (rw is at e))
+      go (Read counts) g is = let h : fits counts room ≡ t = rw is at f in rw (is, g, h)
+
+  -- what is Done was counted, and fits
+  was-done : readText text room .answer ≡ done → (counts : Counts) × (outcomeOf text ≡ Read counts) × (fits counts room ≡ true)
+  was-done e = go (outcomeOf text) refl e
+    where
+      fitted : (counts : Counts) (t : Bool) → fits counts room ≡ t → pick t done noRoom ≡ done → fits counts room ≡ true
+      fitted counts true f e = f
+      fitted counts false f e = absurd (omega arith)
+
+      go : (o : Outcome) → outcomeOf text ≡ o → answered o (length text) (byRoom room) .answer ≡ done
+          → (counts : Counts) × (outcomeOf text ≡ Read counts) × (fits counts room ≡ true)
+      go (Refused r from) f e = absurd (eqb-false (numberOf r) done (refusal-number r) e)
+      go (Read counts) f e = (counts, f, fitted counts (fits counts room) refl e)
 
 -- ---- unfolding
 
@@ -265,39 +293,28 @@ module _ (b : Lent) where
     unfolding fillingOf
     fill-reads = rw (le-leb (length (b .text)) longest short)
 
-    -- a text that was measured: its counts fit the tables, or they do not
-    module _ (m : Reading) (is : m ≡ measureText (b .text)) (e : m .answer ≡ done) (t : Bool) (f : fits (countsIn m) (roomIn b) ≡ t) where
-      pub room-answers : told (pick t done noRoom) (m .place) (m .length) (countsIn m) ≡ fillFrom b
-      room-answers = go (outcomeOf (b .text)) refl is ∙ fill-reads
-        where
-          go : (o : Outcome) → outcomeOf (b .text) ≡ o → m ≡ answered o (length (b .text)) (λ counts. done)
-              → told (pick t done noRoom) (m .place) (m .length) (countsIn m) ≡ readText (b .text) (roomIn b)
-          go (Refused r from) g is = absurd (eqb-false (numberOf r) done (refusal-number r) (rw is at e))
-          go (Read counts) g is = let h : fits counts (roomIn b) ≡ t = rw is at f in rw (is, g, h)
-
-    module _ (m : Reading) (is : m ≡ measureText (b .text)) (e : m .answer ≡ done) (f : fits (countsIn m) (roomIn b) ≡ true) where
-      pub done-answers : m ≡ fillFrom b
-      done-answers = let d : told done (m .place) (m .length) (countsIn m) ≡ m = rw (← e) in sym d ∙ room-answers m is e true f
-
-      pub fills : (c p q : List ℕ) → ((s : State) → runOf (b .text) ≡ finished s → Tabled s (b .components) (b .properties) (b .parameters) c p q)
-          → lent (b .text) c p q ≡ leftFilled b
-      fills c p q tabled =
-          let w = read-to-end (b .text) (countsIn m) (rw is (was-counted (b .text) (rw is at e))) in
-          let s = w .state in
-          let t = tabled s (w .run) in
-          let n = w .counts in
-          let fc = both (leb (m .components) (roomIn b .components)) _ f .0 in
-          let fpq = both (leb (m .components) (roomIn b .components)) _ f .1 in
-          let fp = both (leb (m .properties) (roomIn b .properties)) _ fpq .0 in
-          let fq = both (leb (m .properties) (roomIn b .properties)) _ fpq .1 in
-          let d : eqb (fillFrom b .answer) done ≡ true = rw (← room-answers m is e true f) in
-          rw (
-            d,
-            w .run,
-            filled component-shape (s .components) (m .components) (b .components) c (ap (λ (k : Counts). k .components) n) fc (t .components),
-            filled property-shape (s .properties) (m .properties) (b .properties) p (ap (λ (k : Counts). k .properties) n) fp (t .properties),
-            filled parameter-shape (s .parameters) (m .parameters) (b .parameters) q (ap (λ (k : Counts). k .parameters) n) fq (t .parameters),
-          )
+    -- where it is Done, what the pass has put are the rows
+    pub fills : {r : Reading} → r ≡ fillFrom b → r .answer ≡ done → (c p q : List ℕ)
+        → ((s : State) → runOf (b .text) ≡ finished s → Tabled s (b .components) (b .properties) (b .parameters) c p q) → lent (b .text) c p q ≡ leftFilled b
+    fills e f c p q tabled =
+        let x = was-done (b .text) (roomIn b) (rw (e ∙ sym fill-reads) at f) in
+        let m = x .0 in
+        let w = read-to-end (b .text) m (x .1) in
+        let s = w .state in
+        let t = tabled s (w .run) in
+        let n = w .counts in
+        let fc = both (leb (m .components) (roomIn b .components)) _ (x .2) .0 in
+        let fpq = both (leb (m .components) (roomIn b .components)) _ (x .2) .1 in
+        let fp = both (leb (m .properties) (roomIn b .properties)) _ fpq .0 in
+        let fq = both (leb (m .properties) (roomIn b .properties)) _ fpq .1 in
+        let d : fillFrom b .answer ≡ done = rw e at f in
+        rw (
+          d,
+          w .run,
+          filled component-shape (s .components) (m .components) (b .components) c (ap (λ (k : Counts). k .components) n) fc (t .components),
+          filled property-shape (s .properties) (m .properties) (b .properties) p (ap (λ (k : Counts). k .properties) n) fp (t .properties),
+          filled parameter-shape (s .parameters) (m .parameters) (b .parameters) q (ap (λ (k : Counts). k .parameters) n) fq (t .parameters),
+        )
 
 -- ---- all four buffers
 

@@ -1,2 +1,3 @@
 pub mod Laws
+mod NewTables
 mod Examples

@@ -1,17 +1,23 @@
 // The public reading, in one call or in two: a feed is unfolded into a lent text, its rows are counted, and put into three lent tables.
 ghost use mathlib.Core.Path.{_≡_};
-ghost use Prim.Native.Nat.{_≤_};
+ghost use mathlib.Core.Bool.{true};
+ghost use mathlib.Core.List.{List};
+ghost use Prim.Native.Nat.{ℕ, _≤_};
 ghost use lib.ListN.{length};
-ghost use Rattle.octets.specs.Answers.{longest};
+ghost use Rattle.octets.specs.Answers.{longest, done};
 ghost use Rattle.unfolding.specs.Unfold.{unfolded};
 ghost use Rattle.tables.specs.Lent.{lent};
-ghost use Rattle.reading.specs.Answers.{laidWhole, unfoldAnswer, measureText, measuringOf, textAfter, numberOf, faultNumber, placeOf, faultPlace, refusal, told, countsIn, fits, roomFor};
+ghost use Rattle.octets.specs.Runs.{only};
+ghost use Rattle.reading.specs.NewTables.{isZero};
+ghost use Rattle.reading.specs.Answers.{laidWhole, unfoldAnswer, answered, measureText, readText, measuringOf, textAfter, numberOf, faultNumber, placeOf, faultPlace, refusal, told, countsIn, fits, roomFor};
 ghost use Rattle.reading.specs.Lent.{readInto, left, fillFrom, leftFilled};
 use lines::Fault;
 use nesting::Counts;
 use nesting::Outcome;
 use nesting::Refusal;
 use octets::Output;
+
+mod zeros;
 
 // Six numbers: answer, place, length of the unfolded text, and three counts of rows.
 pub struct Reading {
@@ -147,17 +153,42 @@ pub fn unfold_feed(feed: &[u8], text: &mut [u8]) -> Output
     }
 }
 
-// What a text alone answers: its counts, or why it is refused.
-fn measure_text(text: &[u8]) -> Reading
-    requires { ⌜ length (now text) ≤ longest ⌝ }
-    ensures { λ r. ⌜ r ≡ measureText (now (text .entry)) ⌝ }
+// What a text answers by itself, by what was met in it: its counts, or why it is refused.
+fn tell_outcome(outcome: Outcome, size: usize) -> Reading
+    requires { ⌜ answered outcome size (λ counts. done) .place ≤ longest ⌝ }
+    ensures { λ r. ⌜ r ≡ answered outcome size (λ counts. done) ⌝ }
 {
-    let size = text.len();
-    let outcome = nesting::count(text);
     match outcome {
         Outcome::Refused(r, from) => refuse(number_of(r), place_of(r, from), size),
         Outcome::Read(counts) => tell(octets::DONE, 0, size, counts),
     }
+}
+
+fn measure_text(text: &[u8]) -> Reading
+    requires { ⌜ length (now text) ≤ longest ⌝ }
+    ensures { λ r. ⌜ r ≡ measureText (now (text .entry)) ⌝ }
+{
+    tell_outcome(nesting::count(text), text.len())
+}
+
+// What a text answers with these tables, by what it answers by itself.
+fn ask_room(
+    mut told: Reading,
+    components: &[u32],
+    properties: &[u32],
+    parameters: &[u32],
+) -> Reading
+    ensures { λ r. ⌜ ((text : List ℕ) → told ≡ measureText text →
+        r ≡ readText text (roomFor (length (now (components .entry))) (length (now (properties .entry))) (length (now (parameters .entry))))) ⌝ }
+{
+    if told.answer != octets::DONE {
+        return told;
+    }
+    if have_room(told, components, properties, parameters) {
+        return told;
+    }
+    told.answer = octets::NO_ROOM;
+    told
 }
 
 // Unfolds a feed into the text, and tells the rows that it needs.
@@ -173,7 +204,84 @@ pub fn measure_components(feed: &[u8], text: &mut [u8]) -> Reading
     measure_text(&text[0..n])
 }
 
-// Reads an unfolded text into the tables, or refuses and leaves them as they were.
+// Counts the rows first, and puts them where there is room for all.
+fn fill_used(
+    text: &[u8],
+    components: &mut [u32],
+    properties: &mut [u32],
+    parameters: &mut [u32],
+) -> Reading
+    requires { ⌜ length (now text) ≤ longest ⌝ }
+    ensures { λ r. ⌜ r ≡ fillFrom (lent (now (text .entry)) (now (components .entry)) (now (properties .entry)) (now (parameters .entry))) ⌝ }
+    ensures { λ _. ⌜ lent (now (text .entry)) (now (components .exit)) (now (properties .exit)) (now (parameters .exit))
+        ≡ leftFilled (lent (now (text .entry)) (now (components .entry)) (now (properties .entry)) (now (parameters .entry))) ⌝ }
+{
+    let told = ask_room(measure_text(text), components, properties, parameters);
+    if told.answer != octets::DONE {
+        return told;
+    }
+    nesting::pass(text, components, properties, parameters);
+    told
+}
+
+// Puts the rows at once into tables that are all zero, and clears them again where that is refused.
+fn fill_new(
+    text: &[u8],
+    components: &mut [u32],
+    properties: &mut [u32],
+    parameters: &mut [u32],
+) -> Reading
+    requires { ⌜ length (now text) ≤ longest ⌝ }
+    requires { ⌜ (only isZero (now components) ≡ true) × (only isZero (now properties) ≡ true) × (only isZero (now parameters) ≡ true) ⌝ }
+    ensures { λ r. ⌜ r ≡ fillFrom (lent (now (text .entry)) (now (components .entry)) (now (properties .entry)) (now (parameters .entry))) ⌝ }
+    ensures { λ _. ⌜ lent (now (text .entry)) (now (components .exit)) (now (properties .exit)) (now (parameters .exit))
+        ≡ leftFilled (lent (now (text .entry)) (now (components .entry)) (now (properties .entry)) (now (parameters .entry))) ⌝ }
+{
+    let outcome = nesting::pass(text, components, properties, parameters);
+    let told = ask_room(
+        tell_outcome(outcome, text.len()),
+        components,
+        properties,
+        parameters,
+    );
+    if told.answer == octets::DONE {
+        return told;
+    }
+    zeros::clear(components);
+    zeros::clear(properties);
+    zeros::clear(parameters);
+    told
+}
+
+// Whether a table is all zero. One that takes more bytes than its text is not looked through, as that might cost more than it spares; and a used one
+// mostly shows in its first word.
+fn is_new(table: &[u32], size: usize) -> bool
+    ensures { λ r. ⌜ (r ≡ true → only isZero (now (table .entry)) ≡ true) ⌝ }
+{
+    if size / 4 < table.len() {
+        return false;
+    }
+    if 0 < table.len() {
+        if table[0] != 0 {
+            return false;
+        }
+    }
+    zeros::all_zero(table)
+}
+
+fn are_new(size: usize, components: &[u32], properties: &[u32], parameters: &[u32]) -> bool
+    ensures { λ r. ⌜ (r ≡ true → (only isZero (now (components .entry)) ≡ true) × (only isZero (now (properties .entry)) ≡ true) × (only isZero (now (parameters .entry)) ≡ true)) ⌝ }
+{
+    if !is_new(components, size) {
+        return false;
+    }
+    if !is_new(properties, size) {
+        return false;
+    }
+    is_new(parameters, size)
+}
+
+// Reads an unfolded text into the tables, or refuses and leaves them as they were. With new tables the text is read once, with others twice.
 pub fn fill_components(
     text: &[u8],
     components: &mut [u32],
@@ -187,16 +295,10 @@ pub fn fill_components(
     if octets::LONGEST < text.len() {
         return refuse(octets::TOO_LONG, 0, 0);
     }
-    let mut told = measure_text(text);
-    if told.answer != octets::DONE {
-        return told;
+    if are_new(text.len(), components, properties, parameters) {
+        return fill_new(text, components, properties, parameters);
     }
-    if !have_room(told, components, properties, parameters) {
-        told.answer = octets::NO_ROOM;
-        return told;
-    }
-    nesting::pass(text, components, properties, parameters);
-    told
+    fill_used(text, components, properties, parameters)
 }
 
 // Unfolds a feed into the text and reads that into the tables, in one call.
