@@ -75,6 +75,10 @@ room text components properties parameters = lent (bytes₀ text) (components₀
 abbrev pub tablesFor : List ℕ → ℕ → ℕ → ℕ → Lent
 tablesFor text components properties parameters = lent text (components₀ components) (properties₀ properties) (parameters₀ parameters)
 
+-- the same with every word zero
+abbrev pub newTables : List ℕ → ℕ → ℕ → ℕ → Lent
+newTables text components properties parameters = lent text (replicate components 0) (replicate properties 0) (replicate parameters 0)
+
 unfoldable pub repeated : ℕ → List ℕ → List ℕ
 repeated zero xs = []
 repeated (suc n) xs = xs ++ repeated n xs

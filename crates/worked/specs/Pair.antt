@@ -3,7 +3,7 @@
 use mathlib.Core.List.{List, [], _∷_, _++_}
 use Rattle.tables.specs.Lent.{lent}
 use Rattle.octets.specs.Literals.{bytes}
-use Rattle.worked.specs.Cases.{bytes₀, tablesFor, deep, Case, case, measures, fills, fillsNothing}
+use Rattle.worked.specs.Cases.{bytes₀, tablesFor, newTables, deep, Case, case, measures, fills, fillsNothing}
 
 -- measuring: Done with the counts, 2 with nothing changed, or a refusal with the unfolded text in front; never 10
 abbrev pub measured : List Case
@@ -135,4 +135,17 @@ filled =
     -- and 18: "The stray one gives the byte's own offset"
     ∷ case "filling from a stray byte"
     (fillsNothing (tablesFor (bytes "BEGIN:A\nK;P v\nEND:A\n") 4 5 6) (18 ∷ 11 ∷ 20 ∷ 0 ∷ 0 ∷ 0 ∷ []))
+    -- tables that are all zero are filled too: "Done writes the first bytes and rows only."
+    ∷ case "filling new tables"
+    (fills (newTables (bytes "BEGIN:A\nK;P=a:value\nEND:A\n") 4 5 6) (0 ∷ 0 ∷ 26 ∷ 1 ∷ 1 ∷ 1 ∷ [])
+    (lent (bytes "BEGIN:A\nK;P=a:value\nEND:A\n")
+    (4294967295 ∷ 1 ∷ 6 ∷ 1 ∷ [])
+    (0 ∷ 8 ∷ 1 ∷ 14 ∷ 5 ∷ [])
+    (0 ∷ 10 ∷ 1 ∷ 1 ∷ 12 ∷ 1 ∷ [])))
+    -- and are all zero again where that is refused: "no table word changed"
+    ∷ case "filling new tables, properties one word short"
+    (fillsNothing (newTables (bytes "BEGIN:A\nK;P=a:value\nEND:A\n") 4 4 6) (10 ∷ 0 ∷ 26 ∷ 1 ∷ 1 ∷ 1 ∷ []))
+    -- the same
+    ∷ case "filling new tables from a bad END"
+    (fillsNothing (newTables (bytes "BEGIN:A\nK;P=a:value\nEND:B\n") 4 5 6) (5 ∷ 20 ∷ 26 ∷ 0 ∷ 0 ∷ 0 ∷ []))
     ∷ []

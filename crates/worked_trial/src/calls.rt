@@ -72,22 +72,52 @@ fn fill_lent(text: &[u8], components: &mut [u32], properties: &mut [u32], parame
 }
 
 // In place of the room stand the words of the three tables.
-pub fn fill(case: &[u8], text: &[u8]) {
+fn fill_fronts(
+    case: &[u8],
+    text: &[u8],
+    components: &mut [u32],
+    properties: &mut [u32],
+    parameters: &mut [u32],
+) {
     let words = field(case, 3);
+    let c = octets::least(number(words, 0), components.len());
+    let p = octets::least(number(words, 1), properties.len());
+    let q = octets::least(number(words, 2), parameters.len());
+    fill_lent(
+        text,
+        &mut components[0..c],
+        &mut properties[0..p],
+        &mut parameters[0..q],
+    );
+}
+
+pub fn fill(case: &[u8], text: &[u8]) {
     let mut components = [0u32; WORDS];
     let mut properties = [0u32; WORDS];
     let mut parameters = [0u32; WORDS];
     fill_components(&mut components);
     fill_properties(&mut properties);
     fill_parameters(&mut parameters);
-    let c = octets::least(number(words, 0), WORDS);
-    let p = octets::least(number(words, 1), WORDS);
-    let q = octets::least(number(words, 2), WORDS);
-    fill_lent(
+    fill_fronts(
+        case,
         text,
-        &mut components[0..c],
-        &mut properties[0..p],
-        &mut parameters[0..q],
+        &mut components,
+        &mut properties,
+        &mut parameters,
+    );
+}
+
+// The same with new tables, which are all zero.
+pub fn fill_new(case: &[u8], text: &[u8]) {
+    let mut components = [0u32; WORDS];
+    let mut properties = [0u32; WORDS];
+    let mut parameters = [0u32; WORDS];
+    fill_fronts(
+        case,
+        text,
+        &mut components,
+        &mut properties,
+        &mut parameters,
     );
 }
 

@@ -25,7 +25,7 @@ const BYTES: usize = 160;
 fn call(case: &[u8], bytes: &[u8], out: &mut [u8]) {
     let call = which(
         field(case, 0),
-        b"read|fold|fold strictly|quote|write|unfold|view|key|parameter|read deep|write deep|measure|fill|measure deep|fill deep|",
+        b"read|fold|fold strictly|quote|write|unfold|view|key|parameter|read deep|write deep|measure|fill|measure deep|fill deep|fill new|",
     );
     match call {
         0 => calls::read(case, bytes, out),
@@ -43,6 +43,7 @@ fn call(case: &[u8], bytes: &[u8], out: &mut [u8]) {
         12 => calls::fill(case, bytes),
         13 => deep::measure(case, bytes),
         14 => deep::fill(case, bytes),
+        15 => calls::fill_new(case, bytes),
         _ => say(b" NO SUCH CALL"),
     }
 }
