@@ -26,7 +26,9 @@ use Rattle.nesting.specs.declared.Outcome.the-variants.{Read, Refused}
 use Rattle.reading.specs.Answers.{numberOf, placeOf, told, countsIn, refusal, fits, answered, measureText, measuringOf, fillingOf}
 use Rattle.reading.specs.Lent.{roomIn, fillFrom, leftFilled}
 use Rattle.reading.specs.declared.Reading.{Reading}
-use Rattle.reading.proofs.Laws.{read-to-end, unfilled, was-counted, counted-text, measured, text-answers, lent-text}
+use Rattle.reading.proofs.Laws.{read-to-end, was-counted, counted-text}
+use Rattle.reading.proofs.Unfolds.{text-answers, lent-text}
+use Rattle.reading.proofs.Pair.{unfilled, measured}
 use Rattle.demands.specs.Room.{AtMost, Exceeds, SameFront, SameLeft}
 use Rattle.demands.specs.Filling.{Needs, MoreRows, MeasuredIn}
 use Rattle.demands.proofs.Cases.{enough, too-few, fitting, exceeding}

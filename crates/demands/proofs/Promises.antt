@@ -27,7 +27,7 @@ use Rattle.reading.specs.Answers.{told, countsIn, refusal, measuringOf}
 use Rattle.reading.specs.Lent.{roomIn, readInto, left, fillFrom, leftFilled}
 use Rattle.reading.specs.InTurn.{readInTurn, leftInTurn}
 use Rattle.reading.specs.declared.Reading.{Reading}
-use Rattle.reading.proofs.Laws.{unfilled, in-turn}
+use Rattle.reading.proofs.Pair.{unfilled, in-turn}
 use Rattle.folding.specs.Pieces.{physical, Within}
 use Rattle.characters.specs.Utf8.{isUtf8}
 use Rattle.characters.specs.Grammar.{Utf8, IllFormedAt}

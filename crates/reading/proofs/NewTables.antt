@@ -1,6 +1,6 @@
 -- Tables that are all zero: what was there is known, and can be put back. Assumes nothing.
 use mathlib.Core.Path.{_≡_, refl, sym, ap, ap₂, _∙_}
-use mathlib.Core.Bool.{Bool, true, false, not}
+use mathlib.Core.Bool.{Bool, true, false}
 use mathlib.Core.List.{List, [], _∷_}
 use Prim.Native.Nat.{ℕ, _≤_}
 use native.Mathlib.Omega.{arith}
@@ -38,7 +38,3 @@ none-hit table = go (ltb (run isZero table) (length table)) refl
     go : (t : Bool) → ltb (run isZero table) (length table) ≡ t → eqb (boolByte t) 0 ≡ only isZero table
     go true e = sym (lt-leb (length table) (run isZero table) (ltb-true _ _ e))
     go false e = sym (le-leb (length table) (run isZero table) (ltb-false _ _ e))
-
-pub twice-not : (t : Bool) → t ≡ not (not t)
-twice-not true = refl
-twice-not false = refl

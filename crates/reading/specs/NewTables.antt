@@ -1,4 +1,4 @@
--- Serves the code only. A table whose words are all zero.
+-- Serves inner contracts only. A table whose words are all zero.
 -- Assumes nothing.
 use Prim.Native.Nat.{ℕ}
 use mathlib.Core.Bool.{Bool}

@@ -5,12 +5,13 @@ ghost use mathlib.Core.List.{List};
 ghost use Prim.Native.Nat.{ℕ, _≤_};
 ghost use lib.ListN.{length};
 ghost use Rattle.octets.specs.Answers.{longest, done};
+ghost use Rattle.octets.specs.Runs.{only};
 ghost use Rattle.unfolding.specs.Unfold.{unfolded};
 ghost use Rattle.tables.specs.Lent.{lent};
-ghost use Rattle.octets.specs.Runs.{only};
-ghost use Rattle.reading.specs.NewTables.{isZero};
-ghost use Rattle.reading.specs.Answers.{laidWhole, unfoldAnswer, answered, measureText, readText, measuringOf, textAfter, numberOf, faultNumber, placeOf, faultPlace, refusal, told, countsIn, fits, roomFor};
+ghost use Rattle.reading.specs.Answers.{numberOf, faultNumber, placeOf, faultPlace, refusal, told, countsIn};
+ghost use Rattle.reading.specs.Answers.{laidWhole, unfoldAnswer, answered, measureText, readText, measuringOf, textAfter, fits, roomFor};
 ghost use Rattle.reading.specs.Lent.{readInto, left, fillFrom, leftFilled};
+ghost use Rattle.reading.specs.NewTables.{isZero};
 use lines::Fault;
 use nesting::Counts;
 use nesting::Outcome;
@@ -164,6 +165,7 @@ fn tell_outcome(outcome: Outcome, size: usize) -> Reading
     }
 }
 
+// The same of a text, whose rows are counted and not put.
 fn measure_text(text: &[u8]) -> Reading
     requires { ⌜ length (now text) ≤ longest ⌝ }
     ensures { λ r. ⌜ r ≡ measureText (now (text .entry)) ⌝ }
@@ -269,6 +271,7 @@ fn is_new(table: &[u32], size: usize) -> bool
     zeros::all_zero(table)
 }
 
+// Whether all three are.
 fn are_new(size: usize, components: &[u32], properties: &[u32], parameters: &[u32]) -> bool
     ensures { λ r. ⌜ (r ≡ true → (only isZero (now (components .entry)) ≡ true) × (only isZero (now (properties .entry)) ≡ true) × (only isZero (now (parameters .entry)) ≡ true)) ⌝ }
 {

@@ -4,7 +4,8 @@ use Prim.Native.Nat.{ℕ, _-_}
 use mathlib.Core.List.{List}
 use native.Mathlib.Omega.{arith}
 use Rattle.tables.specs.Lent.{Lent, lent}
-use Rattle.reading.proofs.Laws.{lent-fits, refused-first, measured, filled-next}
+use Rattle.reading.proofs.Unfolds.{lent-fits}
+use Rattle.reading.proofs.Pair.{refused-first, measured, filled-next}
 use borrow.Author.Needs.{needs}
 use Rattle.listing.proofs.read_in_turn.Statement.{statement}
 use Rattle.listing.proofs.read_in_turn.Tie as tie

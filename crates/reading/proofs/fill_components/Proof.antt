@@ -3,7 +3,7 @@
 use mathlib.Core.Path.{_∙_}
 use native.Mathlib.Omega.{arith}
 use Rattle.tables.specs.Lent.{lent}
-use Rattle.reading.proofs.Laws.{text-too-long, unfilled}
+use Rattle.reading.proofs.Pair.{text-too-long, unfilled}
 use borrow.Author.Needs.{needs}
 use Rattle.reading.proofs.fill_components.Statement.{statement}
 use Rattle.reading.proofs.fill_components.Tie as tie

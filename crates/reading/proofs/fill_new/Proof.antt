@@ -5,7 +5,8 @@ use native.Mathlib.Omega.{arith}
 use Rattle.tables.specs.Lent.{Lent, lent}
 use Rattle.reading.specs.Answers.{measureText}
 use Rattle.reading.specs.Lent.{fillFrom}
-use Rattle.reading.proofs.Laws.{measured-place, fill-reads, unfilled, fills}
+use Rattle.reading.proofs.Laws.{measured-place}
+use Rattle.reading.proofs.Pair.{fill-reads, unfilled, fills}
 use Rattle.reading.proofs.NewTables.{back, put-back}
 use borrow.Author.Needs.{needs}
 use Rattle.reading.proofs.fill_new.Statement.{statement}

@@ -3,7 +3,7 @@
 use mathlib.Core.Path.{_≡_, _∙_}
 use Rattle.tables.specs.Lent.{Lent, lent}
 use Rattle.reading.specs.Lent.{fillFrom}
-use Rattle.reading.proofs.Laws.{fill-reads, unfilled, fills}
+use Rattle.reading.proofs.Pair.{fill-reads, unfilled, fills}
 use borrow.Author.Needs.{needs}
 use Rattle.reading.proofs.fill_used.Statement.{statement}
 use Rattle.reading.proofs.fill_used.Tie as tie

@@ -8,7 +8,7 @@ use native.Mathlib.Omega.{arith}
 use Rattle.unfolding.specs.Unfold.{unfolded}
 use Rattle.unfolding.proofs.Laws.{length-unfolded}
 use Rattle.reading.specs.Answers.{measureText, measuringOf}
-use Rattle.reading.proofs.Laws.{Unfolds, not-unfolded, was-unfolded, text-answers, lent-fits, lent-text}
+use Rattle.reading.proofs.Unfolds.{Unfolds, not-unfolded, was-unfolded, text-answers, lent-fits, lent-text}
 use borrow.Author.Needs.{needs}
 use Rattle.reading.proofs.measure_components.Statement.{statement}
 use Rattle.reading.proofs.measure_components.Tie as tie

@@ -7,7 +7,8 @@ use lib.ListN.{length, take}
 use native.Mathlib.Omega.{arith}
 use Rattle.unfolding.specs.Unfold.{unfolded}
 use Rattle.tables.specs.Lent.{Lent, lent}
-use Rattle.reading.proofs.Laws.{Unfolds, was-unfolded, lent-fits, lent-text, unread-unfolded, read-by-filling}
+use Rattle.reading.proofs.Unfolds.{Unfolds, was-unfolded, lent-fits, lent-text}
+use Rattle.reading.proofs.Pair.{unread-unfolded, read-by-filling}
 use borrow.Author.Needs.{needs}
 use Rattle.reading.proofs.read_components.Statement.{statement}
 use Rattle.reading.proofs.read_components.Tie as tie

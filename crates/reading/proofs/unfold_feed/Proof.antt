@@ -2,7 +2,7 @@
 use mathlib.Core.List.{List}
 use Prim.Native.Nat.{ℕ}
 use borrow.Author.Needs.{needs}
-use Rattle.reading.proofs.Laws.{too-long, no-room, all-there}
+use Rattle.reading.proofs.Unfolds.{too-long, no-room, all-there}
 use Rattle.reading.proofs.unfold_feed.Statement.{statement}
 use Rattle.reading.proofs.unfold_feed.Tie as tie
 

@@ -3,7 +3,7 @@ use mathlib.Core.Path.{_∙_}
 use native.Mathlib.Omega.{arith}
 use Rattle.unfolding.specs.Unfold.{unfolded}
 use Rattle.unfolding.proofs.Laws.{length-unfolded}
-use Rattle.reading.proofs.Laws.{text-fits, text-stays}
+use Rattle.reading.proofs.Unfolds.{text-fits, text-stays}
 use borrow.Author.Needs.{needs}
 use Rattle.reading.proofs.unfold_where_it_fits.Statement.{statement}
 use Rattle.reading.proofs.unfold_where_it_fits.Tie as tie

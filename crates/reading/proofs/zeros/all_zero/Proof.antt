@@ -1,7 +1,7 @@
 -- `reading::zeros::all_zero`: whether the run of zeros ends before the end.
 use Prim.Native.Nat.{ℕ, _+_, _≤_, _-_}
 use mathlib.Core.Path.{_≡_, sym, ap, _∙_}
-use mathlib.Core.Bool.{not}
+use mathlib.Core.Bool.{not, Bool·not-not}
 use native.Mathlib.Omega.{arith}
 use mir.Val.{boolByte}
 use lib.Bits.{bitOr}
@@ -11,7 +11,7 @@ use borrow.Author.Tests.{le-ltb}
 use Rattle.octets.specs.Runs.{run}
 use Rattle.octets.proofs.Hits.{onward, ends}
 use Rattle.reading.specs.NewTables.{isZero}
-use Rattle.reading.proofs.NewTables.{none-hit, twice-not}
+use Rattle.reading.proofs.NewTables.{none-hit}
 use Rattle.reading.proofs.zeros.all_zero.Statement.{statement}
 use Rattle.reading.proofs.zeros.all_zero.Tie as tie
 
@@ -46,7 +46,7 @@ loop-again c =
     let n = run isZero (drop 0 table) in
     let t = not (eqb (getD table (l .loop .i) 0) 0) in
     let at : 0 + l .loop .i ≡ l .loop .i = omega arith in
-    let same : isZero (getD table (0 + l .loop .i) 0) ≡ not t = rw at (twice-not (isZero (getD table (l .loop .i) 0))) in
+    let same : isZero (getD table (0 + l .loop .i) 0) ≡ not t = rw at (sym (Bool·not-not (isZero (getD table (l .loop .i) 0)))) in
     (omega arith, ap (λ (h : ℕ). bitOr h (boolByte t)) (l .loop .inv .1) ∙ onward n (l .loop .i) t (ends isZero table 0 (l .loop .i) t same (omega arith)))
 
 returns : tie.Need-returns Inv-loop μ-loop
