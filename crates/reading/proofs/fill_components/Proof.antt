@@ -2,19 +2,27 @@
 -- Assumes nothing.
 use mathlib.Core.Path.{_∙_}
 use native.Mathlib.Omega.{arith}
-use Rattle.tables.specs.Lent.{lent}
+use Rattle.tables.specs.Lent.{Lent, lent}
 use Rattle.reading.proofs.Pair.{text-too-long, unfilled}
 use borrow.Author.Needs.{needs}
 use Rattle.reading.proofs.fill_components.Statement.{statement}
 use Rattle.reading.proofs.fill_components.Tie as tie
+
+-- what the places of the code see: what is lent, and the limit
+abbrev lent-of : tie.After-slice-known3 → Lent
+lent-of c =
+    let a = c .before .before .before .before .args in
+    lent (a .text .now) (a .components .now) (a .properties .now) (a .parameters .now)
+
+abbrev short-of : tie.After-are-new → tie.Else1
+short-of c = c .before .before .before .before
 
 refuse-requires : tie.Need-refuse-requires
 refuse-requires c κs = search needs
 
 returns : tie.Need-returns
 returns c =
-    let a = c .before .before .before .before .before .before .args in
-    let b = lent (a .text .now) (a .components .now) (a .properties .now) (a .parameters .now) in
+    let b = lent-of (c .before .before) in
     let e = c .refuse .ensures ∙ text-too-long b (c .before .if1 .taken) in
     (e, unfilled b e (rw (c .refuse .ensures) (λ z. omega arith)))
 
@@ -24,7 +32,7 @@ are-new-requires c κs = search needs
 fill-new-requires : tie.Need-fill-new-requires
 fill-new-requires c κs =
     let d = c .before .before .before in
-    (d .before .before .before .before .before .if1 .left, d .before .are-new .ensures (d .if2 .taken))
+    (short-of (d .before) .if1 .left, d .before .are-new .ensures (d .if2 .taken))
 
 same-length : tie.Need-same-length
 same-length c = search needs

@@ -20,6 +20,9 @@ feed-of c = c .before .before .before .before .args .feed .now
 abbrev text-of : tie.After-unfold-feed → List ℕ
 text-of c = c .before .before .before .before .args .text .now
 
+abbrev refused-of : tie.After-refuse → tie.After-unfold-feed
+refused-of c = c .before .before .before .before .before
+
 abbrev unfolding-of : tie.Else1 → tie.After-unfold-feed
 unfolding-of c = c .before .before .before .before
 
@@ -46,7 +49,7 @@ same-length c = search needs
 returns : tie.Need-returns
 unfolding measuringOf
 returns c =
-    let u = c .before .before .before .before .before in
+    let u = refused-of c in
     (c .refuse .ensures ∙ not-unfolded (feed-of u) (length (text-of u)) _ (u .unfold-feed .ensures .0) (c .before .if1 .taken), u .unfold-feed .ensures .1)
 
 sub-measure-text : tie.Need-sub-measure-text

@@ -25,6 +25,9 @@ lent-of c =
 abbrev entry-of : tie.After-unfold-feed → tie.After-slice-known4
 entry-of c = c .before .before
 
+abbrev refused-of : tie.After-refuse → tie.After-unfold-feed
+refused-of c = c .before .before .before .before .before
+
 abbrev unfolding-of : tie.Else1 → tie.After-unfold-feed
 unfolding-of c = c .before .before .before .before
 
@@ -58,7 +61,7 @@ same-length c = search needs
 
 returns : tie.Need-returns
 returns c =
-    let u = c .before .before .before .before .before in
+    let u = refused-of c in
     unread-unfolded (feed-of (entry-of u)) (lent-of (entry-of u)) (u .unfold-feed .ensures .0) (c .before .if1 .taken) (c .refuse .ensures) (u .unfold-feed .ensures .1)
 
 sub-fill-components : tie.Need-sub-fill-components
