@@ -99,7 +99,15 @@ const READ_LOWER: Row = Row { feeds: &[("lower", 1 << 20)], ..READ };
 /// Measuring, allocating just the rows that it told, and filling, beside the one call into tables that stand ready.
 const PAIR: Row = Row {
     name: "pair",
-    feeds: FEEDS,
+    feeds: &[
+        ("calendar", 1 << 20),
+        ("calendar", 1 << 19),
+        ("calendar", 1 << 18),
+        ("lf-only", 1 << 18),
+        ("nested", 1 << 20),
+        ("hostile", 1 << 20),
+        ("one-line", 1 << 20),
+    ],
     parts: |feed| vec![feed],
     ours: |parts, lent, clock| {
         let feed = black_box(parts[0].as_bytes());

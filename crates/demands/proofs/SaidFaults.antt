@@ -3,7 +3,7 @@ use mathlib.Core.Path.{_≡_, refl, sym, ap, subst, _∙_}
 use mathlib.Core.Bool.{Bool, true, false, _&&_, _||_, or-true, false≢true}
 use mathlib.Core.List.{List, [], _∷_, _++_, append-nil, append-assoc}
 use mathlib.Core.Logic.{_⊎_, inl, inr, ⊎-elim}
-use Prim.Native.Nat.{ℕ, _+_, _-_, _≤_, _<_}
+use Prim.Native.Nat.{ℕ, _+_, _-_, _≤_}
 use native.Mathlib.Omega.{arith}
 use lib.ListN.{length, getD, drop, length-append}
 use lib.Seq.{getD-append-add, getD-append-seam}
@@ -29,7 +29,7 @@ use Rattle.lines.specs.declared.Fault.the-variants.{ReservedKey, EmptyKey, Stra
 use Rattle.lines.specs.declared.Line.the-variants.{Begin, BadBegin, Bad}
 use Rattle.lines.proofs.Rule.{refused-key, empty-key, is-empty, is-begin, is-end, is-other, at-end, stray, valued}
 use Rattle.reading.specs.Answers.{faultNumber, faultPlace}
-use Rattle.demands.specs.LineGrammar.{Every, Some, begin, end, AnyCase, as-capital, as-small, Marked}
+use Rattle.demands.specs.LineGrammar.{Every, begin, end, AnyCase, as-capital, as-small, Marked}
 use Rattle.demands.specs.LineFaults.{Stops, at-colon, at-semicolon, at-end as at-line-end, ReservedLine, begin-key, end-key, Keyed, key-parameters}
 use Rattle.demands.specs.LineFaults.{Stray, Faulty, reserved-key, empty-key as no-key, stray-byte}
 use Rattle.demands.specs.GrammarRefusals.{Other}

@@ -30,7 +30,7 @@ use Rattle.demands.specs.LineGrammar.{Closes}
 use Rattle.demands.specs.LineFaults.{Faulty}
 use Rattle.demands.specs.GrammarRefusals.{Other, Refuses, bad-begin, too-deep, none-open, other-name, outside, no-property}
 use Rattle.demands.proofs.SaidLines.{begin-read, bad-begin-read, opens-read, closes-read, closes-name, Says, says}
-use Rattle.demands.proofs.SaidFaults.{faulty, FaultRead, fault-read}
+use Rattle.demands.proofs.SaidFaults.{faulty, fault-read}
 use Rattle.demands.proofs.SaidNesting.{innermost}
 
 -- ---- any other line

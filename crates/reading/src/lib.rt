@@ -255,12 +255,12 @@ fn fill_new(
     told
 }
 
-// Whether a table is all zero. One that takes more bytes than its text is not looked through, as that might cost more than it spares; and a used one
-// mostly shows in its first word.
+// Whether a table is all zero. One that takes more than twice the bytes of its text is not looked through, as that might cost more than it spares; and
+// a used one mostly shows in its first word.
 fn is_new(table: &[u32], size: usize) -> bool
     ensures { λ r. ⌜ (r ≡ true → only isZero (now (table .entry)) ≡ true) ⌝ }
 {
-    if size / 4 < table.len() {
+    if size / 2 < table.len() {
         return false;
     }
     if 0 < table.len() {
