@@ -3,7 +3,6 @@
 import itertools
 import os
 import shlex
-import shutil
 import struct
 import subprocess
 from pathlib import Path
@@ -42,28 +41,14 @@ def rust():
     return [program, "replay"]
 
 
-def kit():
-    """The folder of the Rattle kit, as `rt` finds it."""
-    if os.environ.get("RATTLE_HOME"):
-        return Path(os.environ["RATTLE_HOME"])
-    rt = shutil.which("rt")
-    if not rt:
-        raise Failed("no rt on the PATH: set RATTLE_HOME to the kit's folder, or ORACLE_OURS to a command")
-    return Path(rt).resolve().parents[1]
-
-
 def ours():
-    """The command in ORACLE_OURS; else the built crate `replay`, run as `rt` runs a program: with the
-    kit's loader and C library and, where the processor is another, its emulator."""
+    """The command in ORACLE_OURS; else the built crate `replay`."""
     if os.environ.get("ORACLE_OURS"):
         return shlex.split(os.environ["ORACLE_OURS"])
-    program = ROOT / "target" / "bin" / "replay"
+    program = ROOT / "crates" / "replay" / "out" / "replay"
     if not program.is_file():
-        raise Failed("our side is not built: run rt check replay, or set ORACLE_OURS to a command")
-    tools = kit() / "on" / os.uname().machine / "toolchain"
-    emulator = tools / "bin" / "qemu-x86_64"
-    return [*([emulator] if emulator.exists() else []),
-            tools / "lib" / "ld-linux-x86-64.so.2", "--library-path", tools / "lib", program]
+        raise Failed("our side is not built: run rt run </dev/null in crates/replay, or set ORACLE_OURS to a command")
+    return [program]
 
 
 def answers(command, frames):

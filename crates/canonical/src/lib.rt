@@ -1,4 +1,6 @@
 // The canonical line of a case: what one of our functions answers, as text that can be compared.
+#![tactic(auto)]
+
 ghost use Rattle.std.specs.Prelude.{◌≡◌, ◌<◌};
 
 use octets::{Key, Output, Span};
@@ -22,9 +24,8 @@ fn plus(a: usize, b: usize) -> usize {
 
 // Lays a number in decimal digits.
 fn lay_number(n: usize, out: &mut [u8], at: usize) -> usize {
-    let mut digits = [0u8; 20];
-    let count = io::decimal(n as u64, &mut digits);
-    octets::lay(&digits[..count], out, at)
+    let mut digits = itoa::Buffer::new();
+    octets::lay(digits.format(n).as_bytes(), out, at)
 }
 
 // Lays a space and a number.

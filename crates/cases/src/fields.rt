@@ -1,4 +1,5 @@
 // A case is a line of fields with bars between them. A field holds bytes, some as their numbers between angle brackets, or numbers with a space between two.
+use std::io;
 use trial::say;
 
 // Part n of bytes with marks between the parts.
@@ -55,9 +56,9 @@ pub fn which(word: &[u8], names: &[u8]) -> usize {
 }
 
 // The first field of a line is the call, and the second the name of the case.
-pub fn say_name(line: &[u8]) {
-    say(field(line, 1));
-    say(b":");
+pub fn say_name(rt: &impl Print, line: &[u8]) -> io::Result<()> {
+    say(rt, field(line, 1))?;
+    say(rt, b":")
 }
 
 // Ten times the value, and one digit more.
@@ -69,7 +70,7 @@ fn shifted(value: usize, digit: u8) -> usize {
 }
 
 // How far the bytes of a field are laid, and the number that has begun, if one has.
-#[derive(Drop)]
+#[derive(Clone, Copy)]
 struct Laid {
     end: usize,
     inside: bool,

@@ -1,6 +1,6 @@
 // What stands in lent buffers before a call, so that what stays is seen; and what stands there behind it.
-use libc::STDOUT_FILENO;
 use octets::Output;
+use std::io;
 use trial::{say, say_number};
 
 // The first byte of every buffer, and the first word of each table.
@@ -81,85 +81,83 @@ fn words_kept(words: &[u32], first: u32) -> bool {
 }
 
 // A byte as it is, where it can be seen; else its number.
-fn say_byte(b: u8) {
+fn say_byte(rt: &impl Print, b: u8) -> io::Result<()> {
     if (32 <= b) & (b < 127) {
-        say(&[b]);
-        return;
+        return say(rt, &[b]);
     }
-    say(b"<");
-    io::print_decimal(STDOUT_FILENO, b as u64);
-    say(b">");
+    print!(rt; "<{b}>")
 }
 
-pub fn say_each_byte(bytes: &[u8]) {
-    let mut i: usize = 0;
-    while i < bytes.len() {
-        say_byte(bytes[i]);
-        i += 1;
+pub fn say_each_byte(rt: &impl Print, bytes: &[u8]) -> io::Result<()> {
+    for b in bytes {
+        say_byte(rt, *b)?;
     }
+    Ok(())
 }
 
 fn wide(x: u32) -> usize {
     x as usize
 }
 
-fn say_each_word(words: &[u32]) {
-    let mut i: usize = 0;
-    while i < words.len() {
-        say_number(wide(words[i]));
-        i += 1;
+fn say_each_word(rt: &impl Print, words: &[u32]) -> io::Result<()> {
+    for word in words {
+        say_number(rt, wide(*word))?;
     }
+    Ok(())
 }
 
 // A buffer: that it is as it was, or all of it.
-pub fn say_bytes(bytes: &[u8]) {
+pub fn say_bytes(rt: &impl Print, bytes: &[u8]) -> io::Result<()> {
     if bytes_kept(bytes) {
-        say(b" kept");
-        return;
+        return say(rt, b" kept");
     }
-    say(b" ");
-    say_each_byte(bytes);
+    say(rt, b" ")?;
+    say_each_byte(rt, bytes)
 }
 
-fn say_words(words: &[u32], first: u32) {
+fn say_words(rt: &impl Print, words: &[u32], first: u32) -> io::Result<()> {
     if words_kept(words, first) {
-        say(b" kept");
-        return;
+        return say(rt, b" kept");
     }
-    say_each_word(words);
+    say_each_word(rt, words)
 }
 
-pub fn say_tables(components: &[u32], properties: &[u32], parameters: &[u32]) {
-    say(b", components");
-    say_words(components, COMPONENTS);
-    say(b", properties");
-    say_words(properties, PROPERTIES);
-    say(b", parameters");
-    say_words(parameters, PARAMETERS);
+pub fn say_tables(
+    rt: &impl Print,
+    components: &[u32],
+    properties: &[u32],
+    parameters: &[u32],
+) -> io::Result<()> {
+    say(rt, b", components")?;
+    say_words(rt, components, COMPONENTS)?;
+    say(rt, b", properties")?;
+    say_words(rt, properties, PROPERTIES)?;
+    say(rt, b", parameters")?;
+    say_words(rt, parameters, PARAMETERS)
 }
 
 // The last so many bytes of a text.
-pub fn say_last(text: &[u8], count: usize) {
+pub fn say_last(rt: &impl Print, text: &[u8], count: usize) -> io::Result<()> {
     let front = text.len() - octets::least(text.len(), count);
-    say_each_byte(&text[front..]);
+    say_each_byte(rt, &text[front..])
 }
 
 // The last so many words of a table.
-pub fn say_last_words(table: &[u32], count: usize) {
+pub fn say_last_words(rt: &impl Print, table: &[u32], count: usize) -> io::Result<()> {
     let front = table.len() - octets::least(table.len(), count);
-    say_each_word(&table[front..]);
+    say_each_word(rt, &table[front..])
 }
 
 // Three numbers that a call answers.
-pub fn say_three(answer: u32, place: usize, third: usize) {
-    say_number(answer as usize);
-    say_number(place);
-    say_number(third);
+pub fn say_three(rt: &impl Print, answer: u32, place: usize, third: usize) -> io::Result<()> {
+    say_number(rt, answer as usize)?;
+    say_number(rt, place)?;
+    say_number(rt, third)
 }
 
 // The three numbers of an output, and the buffer.
-pub fn say_output(o: Output, out: &[u8]) {
-    say_three(o.answer, o.place, o.length);
-    say(b",");
-    say_bytes(out);
+pub fn say_output(rt: &impl Print, o: Output, out: &[u8]) -> io::Result<()> {
+    say_three(rt, o.answer, o.place, o.length)?;
+    say(rt, b",")?;
+    say_bytes(rt, out)
 }

@@ -1,4 +1,6 @@
 // Characters of UTF-8 (RFC 3629): how long one is by its first byte, which are well formed, and where a text may be cut.
+#![tactic(auto)]
+
 ghost use Rattle.std.specs.Prelude.{◌≡◌, ◌&&◌, ◌+◌, ◌<◌, ◌≤◌, length, get_or};
 ghost use Rattle.characters.specs.Units.{tail, wanted, last_start};
 ghost use Rattle.characters.specs.Utf8.{utf8_two, utf8_three, utf8_four, utf8_run, char_len};

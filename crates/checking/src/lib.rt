@@ -1,4 +1,6 @@
 // The table rule as a test: which row of three tables is the first to break it.
+#![tactic(auto)]
+
 ghost use Rattle.std.specs.Prelude.{◌≡◌, ◌&&◌, [], ◌+◌, ◌/◌, ◌≤◌, length};
 ghost use Rattle.octets.specs.Laid.{most};
 ghost use Rattle.tables.specs.Rows.{property_size, parameter_size};

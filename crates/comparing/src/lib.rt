@@ -1,4 +1,6 @@
 // Whether parts of a text, keys and parameters are the same, and whether two runs of parameter rows hold the same ones, in any order, each row counted.
+#![tactic(auto)]
+
 ghost use Rattle.std.specs.Prelude.{◌≡◌, ◌+◌, ◌/◌, ◌≤◌, ◌<◌, length, ltb};
 ghost use Rattle.octets.specs.Views.{viewed};
 ghost use Rattle.octets.specs.Words.{same_bytes};

@@ -52,7 +52,7 @@ use Rattle.listing.proofs.list.Kinds as list_kinds
 use Rattle.listing.proofs.list.Reads as list_reads
 use Rattle.listing.proofs.list_feed.Kinds as list_feed_kinds
 use Rattle.listing.proofs.list_feed.Reads as list_feed_reads
-use Rattle.demands.specs.Calls.{Call, Defined, Determined, part_of, lent_in, left_in, tables_in}
+use Rattle.demands.specs.Calls.{Call, Defined, Determined, part_of, lent_in, changed_in, filled_in, left_in, tables_in}
 use Rattle.demands.proofs.Determined.{determined}
 
 -- ---- calls that are lent nothing to change
@@ -180,8 +180,8 @@ read_components =
     record { lifetimes = 5; parameters = read_kinds.ps; result = read_kinds.r; asked = read_reads.Asked; promised = read_reads.Learnt }
 
 pub read_components_is : Defined read_components (λ κs r. r)
-    (λ κs a. read_into a.0.now (lent_in a.1))
-    (λ κs a. (tt, left_in (left a.0.now (lent_in a.1)) tt))
+    (λ κs a. read_into a.0.now (changed_in a.1))
+    (λ κs a. (tt, left_in (left a.0.now (changed_in a.1)) tt))
 read_components_is = record {
   asks_nothing = λ κs a. tt;
   only = λ κs a r x p. record { result_is = p.0; exit_is = ap (λ (b : Lent). (tt, left_in b tt)) p.1 };
@@ -212,8 +212,8 @@ fill_components =
     record { lifetimes = 4; parameters = fill_kinds.ps; result = fill_kinds.r; asked = fill_reads.Asked; promised = fill_reads.Learnt }
 
 pub fill_components_is : Defined fill_components (λ κs r. r)
-    (λ κs a. fill_from (lent_in a))
-    (λ κs a. (tt, tables_in (left_filled (lent_in a)) tt))
+    (λ κs a. fill_from (filled_in a))
+    (λ κs a. (tt, tables_in (left_filled (filled_in a)) tt))
 fill_components_is = record {
   asks_nothing = λ κs a. tt;
   only = λ κs a r x p. record { result_is = p.0; exit_is = ap (λ (b : Lent). (tt, tables_in b tt)) p.1 };
@@ -275,8 +275,8 @@ abbrev pub list : Call
 list = record { lifetimes = 6; parameters = list_kinds.ps; result = list_kinds.r; asked = list_reads.Asked; promised = list_reads.Learnt }
 
 pub list_is : Defined list (λ κs r. r)
-    (λ κs a. counted (length (listing a.0.now (lent_in a.1))))
-    (λ κs a. (tt, left_in (left_listed a.0.now (lent_in a.1)) (laid (listing a.0.now (lent_in a.1)) a.1.1.1.1.1.0.now, tt)))
+    (λ κs a. counted (length (listing a.0.now (changed_in a.1))))
+    (λ κs a. (tt, left_in (left_listed a.0.now (changed_in a.1)) (laid (listing a.0.now (changed_in a.1)) a.1.1.1.1.1.0.now, tt)))
 list_is = record {
   asks_nothing = λ κs a. tt;
   only = λ κs a r x p. record { result_is = from_front p.0; exit_is = ap₂ (λ (b : Lent) (out : List ℕ). (tt, left_in b (out, tt))) p.1 p.0.is };

@@ -39,7 +39,7 @@ higher : {m n : ℕ} {os : List Opened} → m ≤ n → Falling m os → Falling
 higher h none = none
 higher h (next b f) = next (le_trans b h) f
 
-pub falling_last : {n : ℕ} {os ps : List Opened} → Last os ps → Falling n ps → Falling n os
+pub falling_last : {os : List Opened} {n : ℕ} {ps : List Opened} → Last os ps → Falling n ps → Falling n os
 falling_last all f = f
 falling_last (later p l) (next b f) = higher (le_of_lt b) (falling_last l f)
 
@@ -50,10 +50,10 @@ first_below l f = head (falling_last l f)
     head (next b f) = b
 
 -- where rows fall, the search for a row of the list finds it, and what stands around it
-found : {n : ℕ} {o : Opened} {os ps : List Opened} → Last (o ∷ os) ps → Falling n ps → out_from o.row ps ≡ o ∷ os
+found : {o : Opened} {os : List Opened} {n : ℕ} {ps : List Opened} → Last (o ∷ os) ps → Falling n ps → out_from o.row ps ≡ o ∷ os
 unfolding out_from
-found {n} {o} {os} all f = rw (eq-eqb o.row o.row refl)
-found {n} {o} {os} (later p l) (next b f) = rw (ne_eqb p.row o.row (λ e. omega (arith, first_below l f))) (found l f)
+found {o} {os} all f = rw (eq-eqb o.row o.row refl)
+found {o} {os} (later p l) (next b f) = rw (ne_eqb p.row o.row (λ e. omega (arith, first_below l f))) (found l f)
 
 -- so the ancestors of a row whose parent is the innermost open component are the open components
 pub parents : {n : ℕ} (es : List Entry) {ps : List Opened} (c : ComponentRow) → Last (chain es) ps → Falling n ps → n ≤ no_parent → c.parent ≡ top es

@@ -43,7 +43,7 @@ use Rattle.exports.proofs.hawniretem_loose_twins.Kinds as loose_twins_kinds
 use Rattle.exports.proofs.hawniretem_loose_twins.Reads as loose_twins_reads
 use Rattle.exports.proofs.hawniretem_neighbours.Kinds as neighbours_kinds
 use Rattle.exports.proofs.hawniretem_neighbours.Reads as neighbours_reads
-use Rattle.demands.specs.Calls.{Call, Defined, Determined, lent_in, left_in, tables_in}
+use Rattle.demands.specs.Calls.{Call, Defined, Determined, lent_in, changed_in, filled_in, left_in, tables_in}
 use Rattle.demands.proofs.Determined.{determined}
 
 -- `exports::hawniretem_unfold`
@@ -150,7 +150,7 @@ hawniretem_read =
 
 pub hawniretem_read_is : Defined hawniretem_read (λ κs r. r)
     (λ κs a. tt)
-    (λ κs a. (tt, left_in (left a.0.now (lent_in a.1)) (reading_numbers (read_into a.0.now (lent_in a.1)), tt)))
+    (λ κs a. (tt, left_in (left a.0.now (changed_in a.1)) (reading_numbers (read_into a.0.now (changed_in a.1)), tt)))
 hawniretem_read_is = record {
   asks_nothing = λ κs a. tt;
   only = λ κs a r x p. record { result_is = refl; exit_is = ap₂ (λ (b : Lent) (numbers : List ℕ). (tt, left_in b (numbers, tt))) p.1 p.0 };
@@ -182,7 +182,7 @@ hawniretem_fill =
 
 pub hawniretem_fill_is : Defined hawniretem_fill (λ κs r. r)
     (λ κs a. tt)
-    (λ κs a. (tt, tables_in (left_filled (lent_in a)) (reading_numbers (fill_from (lent_in a)), tt)))
+    (λ κs a. (tt, tables_in (left_filled (filled_in a)) (reading_numbers (fill_from (filled_in a)), tt)))
 hawniretem_fill_is = record {
   asks_nothing = λ κs a. tt;
   only = λ κs a r x p. record { result_is = refl; exit_is = ap₂ (λ (b : Lent) (numbers : List ℕ). (tt, tables_in b (numbers, tt))) p.1 p.0 };

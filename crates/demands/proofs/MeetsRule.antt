@@ -14,7 +14,6 @@ use Rattle.lines.specs.declared.Line.{Line}
 use Rattle.lines.specs.declared.Line.TheVariants.{Empty, Begin, BadBegin, End, Content, Bad}
 use Rattle.lines.specs.declared.Property.{Property}
 use Rattle.lines.specs.Sound.{Sound, SoundProperty}
-use Rattle.lines.proofs.Sound.{sound}
 use Rattle.octets.specs.declared.Span.{Span}
 use Rattle.tables.specs.Rows.{no_parent, flat, row_at, rows_of}
 use Rattle.tables.specs.TableRule.{Opened, component_fits, opens_after, property_fits, broken_component, broken_property, broken}

@@ -11,7 +11,7 @@ use mathlib.Core.List.{List, [], ◌++◌, map}
 use mathlib.Core.Logic.{◌↔◌}
 use Prim.Native.Nat.{ℕ, ◌*◌, ◌≤◌, ◌<◌}
 use lib.ListN.{length, drop}
-use Rattle.octets.specs.Bytes.{other, key_byte, ascii}
+use Rattle.octets.specs.Bytes.{key_byte, ascii}
 use Rattle.octets.specs.Runs.{only}
 use Rattle.octets.specs.All.{All}
 use Rattle.octets.specs.Answers.{longest, done, no_text_room, no_room, bad_escape, stray_byte, not_utf8, output}

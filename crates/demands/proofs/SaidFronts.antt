@@ -42,7 +42,7 @@ shorter_given rest more (as_it_is {value = value} s u) =
 shorter_given rest more (one_part i) = one_part i
 shorter_given rest more (parts i f) = parts i f
 
-pub shorter_tail : {number at : ℕ} {text : List ℕ} {rows : List ParameterRow} (tail more : List ℕ) → Parameters number (tail ++ more) at text rows
+pub shorter_tail : {number : ℕ} (tail more : List ℕ) {at : ℕ} {text : List ℕ} {rows : List ParameterRow} → Parameters number (tail ++ more) at text rows
     → Parameters number tail at text rows
 shorter_tail tail more no_parameter = no_parameter
 shorter_tail tail more (parameter blanks key {later = later} b k g ps) =

@@ -382,9 +382,9 @@ read_one number at blanks key value later tail {present} {start} {len} {rows} {p
           );
     }
 
-pub read_all : {number at : ℕ} {text tail : List ℕ} {rows : List ParameterRow} → Parameters number tail at text rows → front_of tail ≡ NoParameter → Ends tail
+pub read_all : {number : ℕ} {tail : List ℕ} {at : ℕ} {text : List ℕ} {rows : List ParameterRow} → Parameters number tail at text rows → front_of tail ≡ NoParameter → Ends tail
     → ReadAll number at text tail rows
 unfolding params_used
-read_all {at = at} {tail = tail} no_parameter n e = let s = stop at tail n in record { rows_are = rw s; size = ap params_used s }
-read_all {number} {at} {tail = tail} (parameter blanks key {value = value} {later = later} b k g ps) n e =
+read_all {tail = tail} {at = at} no_parameter n e = let s = stop at tail n in record { rows_are = rw s; size = ap params_used s }
+read_all {number} {tail = tail} {at = at} (parameter blanks key {value = value} {later = later} b k g ps) n e =
     read_one number at blanks key value later tail (taken number at blanks key b k g (ends_behind ps e)).1 (read_all ps n e)

@@ -51,7 +51,7 @@ module _ {A : Type 0} (owner_of : A → ℕ) where
   clear_fewer l m (other {x} o f) = other {x = x} (fewer l m o) (clear_fewer l m f)
 
   -- such rows make nothing for one of the range
-  pub skipped : {R : Type 0} (put : ℕ → A → R → R) (end : R) (k row : ℕ) {low high : ℕ} {xs : List A} → low ≤ k → k < high → Clear low high xs
+  pub skipped : {R : Type 0} (put : ℕ → A → R → R) (end : R) (k : ℕ) {low high : ℕ} (row : ℕ) {xs : List A} → low ≤ k → k < high → Clear low high xs
       → gather owner_of put end k row xs ≡ end
   skipped put end k row h l clear = over owner_of put end k row [] refl
   skipped put end k row h l (other {x} {xs} o f) = passed owner_of put end k row (x ∷ xs) xs x refl (not_one o h l) ∙ skipped put end k (row + 1) h l f

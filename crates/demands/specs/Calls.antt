@@ -3,7 +3,7 @@
 -- Assumes nothing.
 use Rattle.std.specs.Prelude.{ℕ, ◌≡◌, List}
 use contract.Lifetimes.{Lfts}
-use Rattle.std.specs.Borrow.{Bor}
+use Rattle.std.specs.Borrow.{Bor, MutBor}
 use denote.Triple.Clauses.{Lasts, at_exit}
 use borrow.Fn.Kinds.{ParamKind, ResultKind, In, Out, Dens, res_t, ended_of}
 use Rattle.tables.specs.Lent.{Lent, lent}
@@ -66,6 +66,14 @@ part_of r = record { bytes = r.now; place = r.ref_ptr }
 -- four slices that stand one behind the other in the arguments, as they are at entry
 abbrev pub lent_in : {Rest : Type 0} → Bor (List ℕ) × (Bor (List ℕ) × (Bor (List ℕ) × (Bor (List ℕ) × Rest))) → Lent
 lent_in a = lent a.0.now a.1.0.now a.1.1.0.now a.1.1.1.0.now
+
+-- the same of four slices that the call may change
+abbrev pub changed_in : {Rest : Type 0} → MutBor (List ℕ) × (MutBor (List ℕ) × (MutBor (List ℕ) × (MutBor (List ℕ) × Rest))) → Lent
+changed_in a = lent a.0.now a.1.0.now a.1.1.0.now a.1.1.1.0.now
+
+-- and of a text that it only reads with three tables that it may change
+abbrev pub filled_in : {Rest : Type 0} → Bor (List ℕ) × (MutBor (List ℕ) × (MutBor (List ℕ) × (MutBor (List ℕ) × Rest))) → Lent
+filled_in a = lent a.0.now a.1.0.now a.1.1.0.now a.1.1.1.0.now
 
 -- what each of the tables holds at exit, before what is lent behind them; and the text before them, where it can change
 abbrev pub tables_in : {Rest : Type 0} → Lent → Rest → List ℕ × (List ℕ × (List ℕ × Rest))

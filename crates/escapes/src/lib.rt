@@ -1,4 +1,6 @@
 // Escaped text (RFC 5545, section 3.3.11): a value read as its text, a text written as a value, and two values compared as texts.
+#![tactic(auto)]
+
 ghost use Rattle.std.specs.Prelude.{◌≡◌, not, ◌+◌, ◌≤◌, ◌<◌, ltb, length, get_or, drop};
 ghost use Rattle.octets.specs.Answers.{longest, output};
 ghost use Rattle.octets.specs.Laid.{laid};
@@ -11,21 +13,21 @@ ghost use Rattle.escapes.specs.Turns.{scanned, Looked, Turns, read_alike, Writte
 use octets::Output;
 
 // Which escapes are read: those of the RFC, or also the colon's, as the repository's tests have it.
-#[derive(Drop)]
+#[derive(Clone, Copy)]
 pub enum Mode {
     Strict,
     Repository,
 }
 
 // What a look through a value finds: a backslash that begins no escape, by its place, or none, and then how long the text is.
-#[derive(Drop)]
+#[derive(Clone, Copy)]
 enum Scan {
     Bad(usize),
     Fine(usize),
 }
 
 // One byte of a text, and how many bytes of the value stand for it: none, where a backslash begins no escape.
-#[derive(Drop)]
+#[derive(Clone, Copy)]
 struct Unit {
     byte: u8,
     used: usize,

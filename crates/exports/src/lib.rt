@@ -1,4 +1,6 @@
 // The public calls for C and Rust. A slice is two words there, where it starts and how long it is; the numbers of an answer go into a lent array.
+#![tactic(auto)]
+
 ghost use Rattle.std.specs.Prelude.{◌≡◌, length};
 ghost use Rattle.tables.specs.Lent.{lent};
 ghost use Rattle.reading.specs.Answers.{unfold_answer, measuring_of, text_after};

@@ -9,7 +9,6 @@ use lib.Dec.{leb}
 use borrow.Author.Tests.{le-leb, lt-leb, leb-true, leb-false}
 use Rattle.octets.specs.Choice.{pick}
 use Rattle.octets.specs.All.{All}
-use Rattle.octets.proofs.Writing.{start, more}
 use Rattle.octets.specs.Bytes.{space, ascii}
 use Rattle.octets.specs.Runs.{only}
 use Rattle.characters.specs.Units.{tails, units, fitting, last_start}

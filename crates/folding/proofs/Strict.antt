@@ -14,7 +14,7 @@ use Rattle.octets.specs.Laid.{most, counted, Lays}
 use Rattle.octets.proofs.Writing.{Writing, start, more, end, from_as, from_front, counts}
 use Rattle.characters.specs.Units.{tails, units, fitting, last_start}
 use Rattle.characters.proofs.Units.{Small, units_front, units_small, units_flatten, by_units, unit_length, unit_small, fitting_most}
-use Rattle.folding.specs.Pieces.{brk, physical}
+use Rattle.folding.specs.Pieces.{brk}
 use Rattle.folding.specs.declared.Column.{Column}
 use Rattle.folding.specs.declared.Folded.{Folded}
 use Rattle.folding.specs.Strict.{first, later, break_for, left_for, folded_units, left_after, strict}

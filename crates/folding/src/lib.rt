@@ -1,5 +1,7 @@
 // The two folds of a line: the strict one of RFC 5545, section 3.1, which takes UTF-8 and which the writer uses, and the repository's.
 // Here document 01 departs from the RFC: docs/DIFFERENCES.md, R-20, R-21.
+#![tactic(auto)]
+
 ghost use Rattle.std.specs.Prelude.{◌≡◌, ◌+◌, ◌<◌, ◌≤◌, length, ◌++◌};
 ghost use Rattle.octets.specs.Laid.{laid, counted, Lays};
 ghost use Rattle.octets.specs.Answers.{output};
@@ -14,7 +16,7 @@ ghost use Rattle.folding.specs.Answers.{foldable, byte_answer, strict_line, repo
 use octets::Output;
 
 // How many octets the present physical line still takes.
-#[derive(Drop)]
+#[derive(Clone, Copy)]
 pub struct Column {
     pub left: usize,
 }
@@ -34,7 +36,7 @@ impl Column {
 }
 
 // A piece folded: where the next one goes on, and the octets, with their breaks.
-#[derive(Drop)]
+#[derive(Clone, Copy)]
 pub struct Folded {
     pub column: Column,
     pub length: usize,

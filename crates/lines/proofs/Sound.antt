@@ -19,7 +19,7 @@ use Rattle.parameters.specs.Values.{span}
 use Rattle.parameters.specs.Parameters.{passed_of}
 use Rattle.parameters.specs.declared.Passed.{Passed}
 use Rattle.parameters.proofs.Lists.{params_few}
-use Rattle.lines.specs.declared.Fault.TheVariants.{ReservedKey, EmptyKey, StrayByte}
+use Rattle.lines.specs.declared.Fault.TheVariants.{EmptyKey, StrayByte}
 use Rattle.lines.specs.declared.Line.TheVariants.{Empty, Begin, BadBegin, End, Content, Bad}
 use Rattle.lines.specs.Sound.{Sound}
 use Rattle.lines.specs.Rule.{after_begin, after_end, begin_of, value_from, by_key, begin_mark, end_mark, line_of}

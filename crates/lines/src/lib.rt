@@ -1,4 +1,6 @@
 // Lines: where a line of a text ends, and what it is by itself.
+#![tactic(auto)]
+
 ghost use Rattle.std.specs.Prelude.{◌≡◌, ◌+◌, ◌≤◌, ◌<◌, length, drop};
 ghost use Rattle.octets.specs.Words.{starts_word};
 ghost use Rattle.octets.specs.Keys.{key_of};
@@ -8,14 +10,14 @@ ghost use Rattle.lines.specs.Rule.{line_of, after_begin, begin_of, by_key, begin
 use octets::{Key, Span};
 
 // A line of a text: how long it is without its break, and where the next one starts.
-#[derive(Drop)]
+#[derive(Clone, Copy)]
 pub struct Extent {
     pub len: usize,
     pub next: usize,
 }
 
 // What is wrong with a line that is neither BEGIN nor END, and no property.
-#[derive(Drop)]
+#[derive(Clone, Copy)]
 pub enum Fault {
     // Its key is BEGIN or END.
     ReservedKey,
@@ -25,14 +27,14 @@ pub enum Fault {
     StrayByte(usize),
 }
 
-#[derive(Drop)]
+#[derive(Clone, Copy)]
 pub struct Property {
     pub key: Span,
     pub parameters: usize,
     pub value: Span,
 }
 
-#[derive(Drop)]
+#[derive(Clone, Copy)]
 pub enum Line {
     Empty,
     // The name behind `BEGIN:`.

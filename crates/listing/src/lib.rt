@@ -1,4 +1,6 @@
 // The listing of a feed as text: three sections of rows, or one line that says why the feed is refused.
+#![tactic(auto)]
+
 ghost use Rattle.std.specs.Prelude.{◌≡◌, ◌+◌, ◌≤◌, ◌<◌, ◌/◌, length};
 ghost use Rattle.octets.specs.Laid.{Lays};
 ghost use Rattle.listing.specs.Texts.{field, digit, digits, decimal, parent_field};
@@ -27,7 +29,7 @@ const PARAMETERS: usize = 512 * tables::PARAMETER_WORDS;
 const PLACES: usize = 20;
 
 // Which of the three tables is listed.
-#[derive(Drop)]
+#[derive(Clone, Copy)]
 pub enum Section {
     Components,
     Properties,

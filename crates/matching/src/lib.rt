@@ -1,4 +1,6 @@
 // Whether two rows say the same: names, values, the parameters of two properties, and the properties of two components.
+#![tactic(auto)]
+
 ghost use Rattle.std.specs.Prelude.{◌≡◌, ◌&&◌, ◌<◌, ◌/◌, length};
 ghost use Rattle.octets.specs.Views.{viewed};
 ghost use Rattle.tables.specs.Rows.{property_size, property_at};
@@ -14,21 +16,21 @@ use tables::{ComponentRow, PropertyRow};
 use walking::Window;
 
 // How the values of two properties are compared: byte by byte, or as the texts that they stand for.
-#[derive(Drop)]
+#[derive(Clone, Copy)]
 pub enum Values {
     Exact,
     AsText,
 }
 
 // A property row, and the parameter row from which on those that belong to it stand.
-#[derive(Drop)]
+#[derive(Clone, Copy)]
 pub struct Held {
     pub property: usize,
     pub first: usize,
 }
 
 // A component row, and where its properties stand.
-#[derive(Drop)]
+#[derive(Clone, Copy)]
 pub struct Side {
     pub row: usize,
     pub window: Window,

@@ -1,4 +1,6 @@
 // How many children of a component are twins of the sibling directly before them: many pairs are compared, and the tables are checked once.
+#![tactic(auto)]
+
 ghost use Rattle.std.specs.Prelude.{◌≡◌, true, ◌<◌, ◌/◌, length};
 ghost use Rattle.octets.specs.Choice.{pick};
 ghost use Rattle.octets.specs.Answers.{bad_table};
@@ -16,7 +18,7 @@ use twins::Spot;
 use walking::Cursor;
 
 // The answer, the place, and how many.
-#[derive(Drop)]
+#[derive(Clone, Copy)]
 pub struct Neighbours {
     pub answer: u32,
     pub place: usize,
@@ -24,14 +26,14 @@ pub struct Neighbours {
 }
 
 // Whether the tables are in order: it is found out when a comparison first needs to know.
-#[derive(Drop)]
+#[derive(Clone, Copy)]
 pub struct Order {
     pub known: bool,
     pub ordered: bool,
 }
 
 // 1 if two components are alike, else 0, and what is known of the order then.
-#[derive(Drop)]
+#[derive(Clone, Copy)]
 pub struct Pair {
     pub twins: usize,
     pub order: Order,

@@ -19,7 +19,7 @@ use Rattle.lines.specs.Split.{Placed, content_len, line_len, extent_of, lines_fr
 use Rattle.lines.specs.declared.Extent.{Extent}
 use Rattle.lines.specs.Rule.{line_of, after_begin}
 use Rattle.lines.specs.declared.Line.{Line}
-use Rattle.lines.specs.declared.Line.TheVariants.{Begin, End, Content, Bad}
+use Rattle.lines.specs.declared.Line.TheVariants.{Begin, End, Content}
 use Rattle.lines.specs.declared.Property.{Property}
 use Rattle.lines.proofs.Split as split
 use Rattle.lines.specs.Sound.{Sound, SoundProperty}
@@ -279,8 +279,11 @@ module _ {text c₀ p₀ q₀ : List ℕ} {s : State} {c p q : List ℕ} {o : Op
           let nq : n.parameters ≡ length s.parameters = ap (λ (k : Counts). k.parameters) so.counts in
           let mc : n.components + 1 ≡ length (s.components ++ component_row (top s.opens) (length s.opens + 1) (entry (length s.components) at name) ∷ []) =
           rw length-append (omega arith) in
+          let depth : o.depth + 1 ≡ length s.opens + 1 = omega (arith, depth_is) in
           let row : component_row parent (o.depth + 1) e ≡ component_row (top s.opens) (length s.opens + 1) (entry (length s.components) at name) =
-          rw (own, depth_is, ee, nc) in
+          ap (λ (p : ℕ). component_row p (o.depth + 1) e) own
+          ∙ (ap (λ (d : ℕ). component_row (top s.opens) d e) depth
+          ∙ ap (λ (x : Entry). component_row (top s.opens) (length s.opens + 1) x) (ee ∙ ap (λ (k : ℕ). entry k at name) nc)) in
           record {
             opens = eo ∙ cc;
             depth = omega (arith, begin_shallow f);

@@ -1,4 +1,6 @@
 // Nesting: the lines of a text, one after another, with the components that are open, and the rows they add.
+#![tactic(auto)]
+
 ghost use Rattle.std.specs.Prelude.{◌≡◌, List, [], ℕ, ◌+◌, ◌*◌, ◌≤◌, ◌<◌, length, drop};
 ghost use Rattle.octets.specs.Answers.{deepest, longest};
 ghost use Rattle.tables.specs.Rows.{parameter_size, parameter_words};
@@ -18,7 +20,7 @@ use parameters::{Front, Param, Value};
 use tables::{ComponentRow, ParameterRow, PropertyRow};
 
 // An open component: its row, and where its name stands in the text.
-#[derive(Drop)]
+#[derive(Clone, Copy)]
 pub struct Entry {
     pub row: u32,
     pub start: u32,
@@ -26,20 +28,20 @@ pub struct Entry {
 }
 
 // The open components, the innermost last.
-#[derive(Drop)]
+#[derive(Clone, Copy)]
 pub struct Open {
     pub entries: [Entry; octets::DEEPEST],
     pub depth: usize,
 }
 
-#[derive(Drop)]
+#[derive(Clone, Copy)]
 pub struct Counts {
     pub components: usize,
     pub properties: usize,
     pub parameters: usize,
 }
 
-#[derive(Drop)]
+#[derive(Clone, Copy)]
 pub enum Refusal {
     BadBegin,
     TooDeep,
@@ -51,14 +53,14 @@ pub enum Refusal {
 }
 
 // A line may stand where it does, or it is refused.
-#[derive(Drop)]
+#[derive(Clone, Copy)]
 pub enum Check {
     Fine,
     Bad(Refusal),
 }
 
 // What a text alone answers: the rows it needs, or the refusal and where it was met: at the start of a line, or at the end of the text.
-#[derive(Drop)]
+#[derive(Clone, Copy)]
 pub enum Outcome {
     Read(Counts),
     Refused(Refusal, usize),

@@ -1,4 +1,6 @@
 // Bytes: their classes, keys, equal parts, words in any case, views, and the numbers that every answer is made of.
+#![tactic(auto)]
+
 ghost use Rattle.std.specs.Prelude.{◌≡◌, false, ◌∷◌, [], ◌++◌, ◌+◌, ◌≤◌, min, length, get_or, take, drop, eqb, leb, ltb};
 ghost use Rattle.octets.specs.Bytes.{key_byte, lowered, other};
 ghost use Rattle.octets.specs.Laid.{laid, counted, Lays};
@@ -58,7 +60,7 @@ pub const STRAY_BYTE: u32 = 18;
 pub const NOT_UTF8: u32 = 19;
 
 // What a fold, quoting or the writer answers: on NO_OUT_ROOM the length is the one needed.
-#[derive(Drop)]
+#[derive(Clone, Copy)]
 pub struct Output {
     pub answer: u32,
     pub place: usize,
@@ -66,14 +68,14 @@ pub struct Output {
 }
 
 // A part of a line or of a text.
-#[derive(Drop)]
+#[derive(Clone, Copy)]
 pub struct Span {
     pub start: usize,
     pub len: usize,
 }
 
 // The key at the front of a line: refused, or as many bytes.
-#[derive(Drop)]
+#[derive(Clone, Copy)]
 pub enum Key {
     Reserved,
     Run(usize),
@@ -123,7 +125,7 @@ pub fn key_run(line: &[u8]) -> usize
 }
 
 // A class of bytes that eight are asked for at once.
-#[derive(Drop)]
+#[derive(Clone, Copy)]
 pub enum Class {
     Capital,
     Common,

@@ -1,5 +1,7 @@
 // The parameters of a property line (RFC 5545, section 3.2): where each key and value stands, and how many bytes they take.
 // Here document 01 departs from the RFC: docs/DIFFERENCES.md, R-6 to R-14.
+#![tactic(auto)]
+
 ghost use Rattle.std.specs.Prelude.{◌≡◌, ◌+◌, ◌≤◌, get_or};
 ghost use Rattle.octets.specs.Bytes.{blank, bare};
 ghost use Rattle.octets.specs.Runs.{run};
@@ -10,7 +12,7 @@ ghost use Rattle.parameters.specs.Parameters.{passed_of};
 use octets::Span;
 
 // The forms that the value behind an `=` can have.
-#[derive(Drop)]
+#[derive(Clone, Copy)]
 pub enum Form {
     Nothing,
     // As many bytes without quotes around them.
@@ -21,14 +23,14 @@ pub enum Form {
     Listed(usize),
 }
 
-#[derive(Drop)]
+#[derive(Clone, Copy)]
 pub enum Value {
     Absent,
     Present(Span),
 }
 
 // A parameter: offsets count from its `;`, and `used` is where the next one may begin.
-#[derive(Drop)]
+#[derive(Clone, Copy)]
 pub struct Param {
     pub key: Span,
     pub value: Value,
@@ -36,14 +38,14 @@ pub struct Param {
 }
 
 // What stands at the front of the rest of a line.
-#[derive(Drop)]
+#[derive(Clone, Copy)]
 pub enum Front {
     NoParameter,
     Found(Param),
 }
 
 // How many parameters stand at the front of the rest of a line, and how many bytes they take.
-#[derive(Drop)]
+#[derive(Clone, Copy)]
 pub struct Passed {
     pub count: usize,
     pub used: usize,

@@ -1,4 +1,6 @@
 // One line of a calendar, folded strictly and closed by CRLF, laid over the front of what is left of the output.
+#![tactic(auto)]
+
 ghost use Rattle.std.specs.Prelude.{◌≡◌, true, false, [], ◌∷◌, ◌++◌, ◌+◌, length, drop};
 ghost use Rattle.octets.specs.Bytes.{cr, lf, colon, ascii};
 ghost use Rattle.octets.specs.Runs.{only};
@@ -14,7 +16,7 @@ use folding::Column;
 use tables::{ParameterRow, PropertyRow};
 
 // Where a line that is laid piece by piece goes on: the octets that its physical line still takes, and the place in the buffer.
-#[derive(Drop)]
+#[derive(Clone, Copy)]
 pub struct Pen {
     pub left: usize,
     pub at: usize,
@@ -29,14 +31,14 @@ impl Pen {
 }
 
 // A property line as it was laid: its bytes, and the parameter row behind its own.
-#[derive(Drop)]
+#[derive(Clone, Copy)]
 pub struct Printed {
     pub length: usize,
     pub next: usize,
 }
 
 // The parameters of a property, laid: where the line goes on, and the row behind them.
-#[derive(Drop)]
+#[derive(Clone, Copy)]
 struct Listed {
     pen: Pen,
     next: usize,

@@ -1,4 +1,6 @@
 // Quoting of a parameter value: what the writer sets in quotes, and what stays as it is.
+#![tactic(auto)]
+
 ghost use Rattle.std.specs.Prelude.{◌≡◌, length};
 ghost use Rattle.octets.specs.Laid.{Lays};
 ghost use Rattle.octets.specs.Runs.{only};

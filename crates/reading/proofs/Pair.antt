@@ -2,7 +2,7 @@
 use mathlib.Core.Path.{◌≡◌, refl, sym, ap, ◌∙◌}
 use mathlib.Core.Bool.{Bool, true, false}
 use mathlib.Core.List.{List}
-use Prim.Native.Nat.{ℕ, ◌-◌, ◌*◌, ◌/◌, ◌≤◌, ◌<◌}
+use Prim.Native.Nat.{ℕ, ◌*◌, ◌/◌, ◌≤◌, ◌<◌}
 use native.Mathlib.Nat.{le-div_iff_mul-le, mul_comm}
 use native.Mathlib.Omega.{arith}
 use lib.ListN.{length, take}
@@ -23,7 +23,7 @@ use Rattle.nesting.specs.declared.Counts.{Counts}
 use Rattle.nesting.proofs.Tables.{all_put}
 use Rattle.tables.specs.Lent.{Lent, lent}
 use Rattle.reading.specs.declared.Reading.{Reading}
-use Rattle.reading.specs.Answers.{refusal, fits, measure_text, read_text, unfold_answer, reading_of, measuring_of, filling_of, text_after, rows_in}
+use Rattle.reading.specs.Answers.{refusal, measure_text, read_text, unfold_answer, reading_of, measuring_of, filling_of, text_after, rows_in}
 use Rattle.reading.specs.Lent.{room_in, with_rows, read_into, left, fill_from, left_filled}
 use Rattle.reading.specs.InTurn.{measure_into, left_measured, lent_on, read_in_turn, left_in_turn}
 use Rattle.reading.proofs.Laws.{read_to_end, measured_length, refused_with, was_done}

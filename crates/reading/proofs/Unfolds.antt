@@ -2,7 +2,7 @@
 use mathlib.Core.Path.{◌≡◌, refl, sym, ap, ◌∙◌}
 use mathlib.Core.Bool.{Bool, true, false}
 use mathlib.Core.List.{List, ◌++◌}
-use Prim.Native.Nat.{ℕ, ◌+◌, ◌-◌, ◌≤◌, ◌<◌}
+use Prim.Native.Nat.{ℕ, ◌≤◌, ◌<◌}
 use native.Mathlib.Omega.{arith}
 use lib.ListN.{length, take, drop}
 use lib.Seq.{take-append_seam}
@@ -15,7 +15,7 @@ use Rattle.octets.specs.Answers.{longest, done, no_text_room, too_long, output}
 use Rattle.octets.specs.declared.Output.{Output}
 use Rattle.unfolding.specs.Unfold.{unfolded}
 use Rattle.reading.specs.declared.Reading.{Reading}
-use Rattle.reading.specs.Answers.{refusal, fits, unfold_answer, once_unfolded, laid_whole, text_after}
+use Rattle.reading.specs.Answers.{refusal, unfold_answer, once_unfolded, laid_whole, text_after}
 
 pub text_fits : (bytes old : List ℕ) → length bytes ≤ length old → laid bytes old ≡ laid_whole bytes old
 text_fits bytes old h = rw (le-leb (length bytes) (length old) h)

@@ -1,4 +1,6 @@
 // The public reading, in one call or in two: a feed is unfolded into a lent text, its rows are counted, and put into three lent tables.
+#![tactic(auto)]
+
 ghost use Rattle.std.specs.Prelude.{◌≡◌, true, List, ℕ, ◌≤◌, length};
 ghost use Rattle.octets.specs.Answers.{longest, done};
 ghost use Rattle.octets.specs.Runs.{only};
@@ -16,7 +18,7 @@ use octets::Output;
 mod zeros;
 
 // Six numbers: answer, place, length of the unfolded text, and three counts of rows.
-#[derive(Drop)]
+#[derive(Clone, Copy)]
 pub struct Reading {
     pub answer: u32,
     pub place: usize,

@@ -1,6 +1,10 @@
 // Answers framed cases from standard input with a line each: four bytes of length, a letter that names the part, and the case.
-use libc::{STDIN_FILENO, STDOUT_FILENO};
+#![tactic(auto)]
+
 use octets::Output;
+use std::io;
+use std::io::Read;
+use trial::{read_full, say};
 
 // Room for all that a case of 65,536 bytes can hold, and for its line.
 const FRAME: usize = 65_537;
@@ -21,62 +25,65 @@ fn frame_length(a: u8, b: u8, c: u8, d: u8) -> usize {
 }
 
 // What stands next in the input.
-#[derive(Drop)]
+#[derive(Clone, Copy)]
 enum Next {
     End,
     // A frame of as many bytes.
     Frame(usize),
 }
 
-fn next_frame() -> Next {
+fn next_frame(input: &mut impl Read) -> io::Result<Next> {
     let mut head = [0u8; 4];
-    let got = io::read_full(STDIN_FILENO, &mut head);
+    let got = read_full(input, &mut head)?;
     if got < 4 {
-        return Next::End;
+        return Ok(Next::End);
     }
-    Next::Frame(frame_length(head[0], head[1], head[2], head[3]))
+    Ok(Next::Frame(frame_length(head[0], head[1], head[2], head[3])))
 }
 
 // Reads the bytes of a frame, and answers whether all of them came.
-fn fill(frame: &mut [u8]) -> bool {
-    let got = io::read_full(STDIN_FILENO, frame);
-    got == frame.len()
+fn fill(input: &mut impl Read, frame: &mut [u8]) -> io::Result<bool> {
+    let got = read_full(input, frame)?;
+    Ok(got == frame.len())
 }
 
-fn write_refusal() -> bool {
-    io::write_all(STDOUT_FILENO, b"err\n")
+fn write_refusal(rt: &impl Print) -> io::Result<()> {
+    say(rt, b"err\n")
 }
 
 // Writes a line, or a refusal where it found no room.
-fn write_line(done: Output, out: &[u8]) -> bool {
+fn write_line(rt: &impl Print, done: Output, out: &[u8]) -> io::Result<()> {
     if done.answer != octets::DONE {
-        return write_refusal();
+        return write_refusal(rt);
     }
-    io::write_all(STDOUT_FILENO, octets::view(out, 0, done.length))
+    say(rt, octets::view(out, 0, done.length))
 }
 
 // Reads a frame and writes its line. Answers whether to go on: not at the end, nor at a frame that is too long or cut short.
 fn answer_one(
+    rt: &impl Print,
+    input: &mut impl Read,
     frame: &mut [u8],
     text: &mut [u8],
     components: &mut [u32],
     properties: &mut [u32],
     parameters: &mut [u32],
     out: &mut [u8],
-) -> bool {
-    let next = next_frame();
+) -> io::Result<bool> {
+    let next = next_frame(input)?;
     let Next::Frame(length) = next else {
-        return false;
+        return Ok(false);
     };
     if frame.len() < length {
-        io::write_all(STDOUT_FILENO, b"too long\n");
-        return false;
+        say(rt, b"too long\n")?;
+        return Ok(false);
     }
-    if !fill(&mut frame[0..length]) {
-        return false;
+    if !fill(input, &mut frame[0..length])? {
+        return Ok(false);
     }
     if length == 0 {
-        return write_refusal();
+        write_refusal(rt)?;
+        return Ok(true);
     }
     let part = frame[0];
     let done = spelling::answer(
@@ -88,25 +95,32 @@ fn answer_one(
         parameters,
         out,
     );
-    write_line(done, out)
+    write_line(rt, done, out)?;
+    Ok(true)
 }
 
-// A proved loop has to end, and nothing says that the input does. So it counts down from a number that no run uses up.
+// A proved loop has to end, and nothing says that the input does. So it counts up to a number that no run reaches.
 fn answer_all(
+    rt: &impl Print,
+    input: &mut impl Read,
     frame: &mut [u8; FRAME],
     text: &mut [u8; TEXT],
     components: &mut [u32; COMPONENTS],
     properties: &mut [u32; PROPERTIES],
     parameters: &mut [u32; PARAMETERS],
     out: &mut [u8; LINE],
-) {
-    let mut turns = u64::MAX;
-    while turns > 0 && answer_one(frame, text, components, properties, parameters, out) {
-        turns -= 1;
+) -> io::Result<()> {
+    for _ in 0..u64::MAX {
+        if !answer_one(
+            rt, input, frame, text, components, properties, parameters, out,
+        )? {
+            break;
+        }
     }
+    Ok(())
 }
 
-fn main() {
+fn main(rt: HostRuntime) -> io::Result<()> {
     let mut frame = [0u8; FRAME];
     let mut text = [0u8; TEXT];
     let mut components = [0u32; COMPONENTS];
@@ -114,11 +128,13 @@ fn main() {
     let mut parameters = [0u32; PARAMETERS];
     let mut out = [0u8; LINE];
     answer_all(
+        &rt,
+        &mut rt.stdin(),
         &mut frame,
         &mut text,
         &mut components,
         &mut properties,
         &mut parameters,
         &mut out,
-    );
+    )
 }

@@ -1,4 +1,6 @@
 // The canonical line of a case of the writer: tables and a text that are written, or a feed that is read and written.
+#![tactic(auto)]
+
 use octets::Output;
 use reading::Reading;
 

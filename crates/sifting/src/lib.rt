@@ -1,4 +1,6 @@
 // Whether two runs of parameter rows hold the same ones, in any order: in rounds over a shelf of rows in order, so that a feed of many rows takes no minutes.
+#![tactic(auto)]
+
 ghost use Rattle.std.specs.Prelude.{◌≡◌, true, false, ◌+◌, ◌/◌, ◌≤◌, ◌<◌, length};
 ghost use Rattle.octets.specs.Views.{viewed};
 ghost use Rattle.tables.specs.Rows.{parameter_size};
@@ -169,7 +171,7 @@ fn shelve(text: &[u8], parameters: &[u32], shelf: &mut [usize], n: usize, row: u
 }
 
 // What a round is about: so many rows are on the shelf, and all rows of the first run before `next` had a chance to be.
-#[derive(Drop)]
+#[derive(Clone, Copy)]
 struct Gathered {
     used: usize,
     next: usize,

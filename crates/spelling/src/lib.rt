@@ -1,4 +1,6 @@
 // The canonical line of a case of escaped text: a text that is written as a value, or a value that is read in one of the modes.
+#![tactic(auto)]
+
 use escapes::Mode;
 use octets::Output;
 

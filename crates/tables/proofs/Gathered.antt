@@ -1,10 +1,12 @@
 -- Laws of gathering the rows that belong to an owner, one row at a time and over a table in two parts. Assumes nothing.
-use mathlib.Core.Path.{◌≡◌, refl, ◌∙◌}
+use mathlib.Core.Path.{◌≡◌, refl, sym, ap, ◌∙◌}
 use mathlib.Core.List.{List, [], ◌∷◌, ◌++◌}
 use Prim.Native.Nat.{ℕ, suc, ◌+◌, ◌<◌, zero-le, suc-le-suc}
 use native.Mathlib.Nat.{add-zero}
 use native.Mathlib.Omega.{arith}
 use lib.ListN.{length, get_or}
+use lib.Dec.{eqb}
+use Rattle.octets.specs.Choice.{pick}
 use borrow.Author.Tests.{eq-eqb, ne_eqb}
 use Rattle.tables.specs.Trees.{gather}
 
@@ -27,10 +29,12 @@ module _ {A R : Type 0} (owner_of : A → ℕ) (before : ℕ → A → R → R) 
   pub parts : (end : R) (owner row : ℕ) (xs ys : List A)
       → gather owner_of before end owner row (xs ++ ys) ≡ gather owner_of before (gather owner_of before end owner (row + length xs) ys) owner row xs
   unfolding gather
-  parts end owner row [] ys = rw add-zero
+  parts end owner row [] ys = ap (λ (r : ℕ). gather owner_of before end owner r ys) (sym (add-zero row))
   parts end owner row (x ∷ xs) ys =
-      let e : row + suc (length xs) ≡ row + 1 + length xs = omega arith in
-      rw (parts end owner (row + 1) xs ys, e)
+      let e : row + 1 + length xs ≡ row + length (x ∷ xs) = omega arith in
+      let same = parts end owner (row + 1) xs ys
+      ∙ ap (λ (r : ℕ). gather owner_of before (gather owner_of before end owner r ys) owner (row + 1) xs) e in
+      ap (λ (made : R). pick (eqb (owner_of x) owner) (before row x made) made) same
 
   -- rows that belong to others make nothing
   pub strangers : (end : R) (owner row : ℕ) (xs : List A) → ((i : ℕ) (d : A) → i < length xs → owner_of (get_or xs i d) ≡ owner → ⊥)

@@ -1,4 +1,6 @@
 // Rows of the three tables: only these functions know how many words a row has and in which order they stand.
+#![tactic(auto)]
+
 ghost use Rattle.std.specs.Prelude.{◌≡◌, ◌/◌, ◌<◌, length};
 ghost use Rattle.tables.specs.Rows.{component_size, property_size, parameter_size, component_words, property_words, parameter_words, component_at, property_at, parameter_at, put_row};
 
@@ -11,7 +13,7 @@ pub const PROPERTY_WORDS: usize = 5;
 
 pub const PARAMETER_WORDS: usize = 6;
 
-#[derive(Drop)]
+#[derive(Clone, Copy)]
 pub struct ComponentRow {
     pub parent: u32,
     pub depth: u32,
@@ -19,7 +21,7 @@ pub struct ComponentRow {
     pub name_len: u32,
 }
 
-#[derive(Drop)]
+#[derive(Clone, Copy)]
 pub struct PropertyRow {
     pub owner: u32,
     pub key_start: u32,
@@ -28,7 +30,7 @@ pub struct PropertyRow {
     pub value_len: u32,
 }
 
-#[derive(Drop)]
+#[derive(Clone, Copy)]
 pub struct ParameterRow {
     pub property: u32,
     pub key_start: u32,
@@ -39,7 +41,7 @@ pub struct ParameterRow {
 }
 
 // The first row that breaks a rule, numbered through the three tables, where one does.
-#[derive(Drop)]
+#[derive(Clone, Copy)]
 pub enum Found {
     Nothing,
     At(usize),

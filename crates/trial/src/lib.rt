@@ -1,32 +1,42 @@
-// What the programs that run examples share: saying what came out, and making feeds of a size.
-use libc::STDOUT_FILENO;
+// What the programs that run examples share: reading the input, saying what came out, and making feeds of a size.
+#![tactic(auto)]
+
 use reading::Reading;
+use std::io;
+use std::io::Read;
 use tables::ComponentRow;
 
-pub fn say(words: &[u8]) {
-    io::write_all(STDOUT_FILENO, words);
+// Reads until the buffer is full or the input ends, and counts the bytes.
+pub fn read_full(input: &mut impl Read, out: &mut [u8]) -> io::Result<usize> {
+    let most = out.len() as u64;
+    let mut rest = out;
+    let count = io::copy(&mut input.take(most), &mut rest)?;
+    Ok(count as usize)
+}
+
+pub fn say(rt: &impl Print, words: &[u8]) -> io::Result<()> {
+    rt.write_all(words)
 }
 
 // A space and a number.
-pub fn say_number(n: usize) {
-    say(b" ");
-    io::print_decimal(STDOUT_FILENO, n as u64);
+pub fn say_number(rt: &impl Print, n: usize) -> io::Result<()> {
+    print!(rt; " {n}")
 }
 
 // The six numbers of a reading.
-pub fn say_six(r: Reading) {
-    say_number(r.answer as usize);
-    say_number(r.place);
-    say_number(r.length);
-    say_number(r.components);
-    say_number(r.properties);
-    say_number(r.parameters);
+pub fn say_six(rt: &impl Print, r: Reading) -> io::Result<()> {
+    say_number(rt, r.answer as usize)?;
+    say_number(rt, r.place)?;
+    say_number(rt, r.length)?;
+    say_number(rt, r.components)?;
+    say_number(rt, r.properties)?;
+    say_number(rt, r.parameters)
 }
 
 // They and the end of the line.
-pub fn say_reading(r: Reading) {
-    say_six(r);
-    say(b"\n");
+pub fn say_reading(rt: &impl Print, r: Reading) -> io::Result<()> {
+    say_six(rt, r)?;
+    say(rt, b"\n")
 }
 
 // Lays the words so many times, and counts the bytes.
@@ -64,7 +74,7 @@ pub fn nest_rows(depth: u32, table: &mut [u32]) {
 }
 
 // Reads so many components inside each other, into rows for one more than is read.
-pub fn read_nested(depth: usize) {
+pub fn read_nested(rt: &impl Print, depth: usize) -> io::Result<()> {
     let mut feed = [0u8; 1024];
     let n = nest(depth, &mut feed);
     let mut text = [0u8; 1024];
@@ -78,7 +88,7 @@ pub fn read_nested(depth: usize) {
         &mut properties,
         &mut parameters,
     );
-    say_reading(r);
+    say_reading(rt, r)
 }
 
 // A feed of so many bytes: a component with one property, whose value is what stood in the buffer.
@@ -94,7 +104,7 @@ fn stretch(size: usize, out: &mut [u8]) {
 // One byte more than is read.
 pub const OVER: usize = octets::LONGEST + 1;
 
-fn read_front(feed: &[u8], text: &mut [u8]) {
+fn read_front(rt: &impl Print, feed: &[u8], text: &mut [u8]) -> io::Result<()> {
     let mut components = [0u32; 4];
     let mut properties = [0u32; 5];
     let mut parameters = [0u32; 0];
@@ -105,11 +115,16 @@ fn read_front(feed: &[u8], text: &mut [u8]) {
         &mut properties,
         &mut parameters,
     );
-    say_reading(r);
+    say_reading(rt, r)
 }
 
 // Reads a feed of so many bytes. An array of this size is lent as a slice only by way of a function that takes the array.
-pub fn read_long(size: usize, feed: &mut [u8; OVER], text: &mut [u8; OVER]) {
+pub fn read_long(
+    rt: &impl Print,
+    size: usize,
+    feed: &mut [u8; OVER],
+    text: &mut [u8; OVER],
+) -> io::Result<()> {
     stretch(size, feed);
-    read_front(octets::view(feed, 0, size), text);
+    read_front(rt, octets::view(feed, 0, size), text)
 }

@@ -1,4 +1,6 @@
 // The twin test: whether two component rows stand for the same tree, and the looser one, which compares values as texts.
+#![tactic(auto)]
+
 ghost use Rattle.std.specs.Prelude.{◌≡◌, true, false, List, ◌≤◌, ◌<◌, length};
 ghost use Rattle.octets.specs.Choice.{pick};
 ghost use Rattle.octets.specs.Answers.{bad_table};
@@ -19,7 +21,7 @@ use tables::Found;
 use walking::Cursor;
 
 // The answer, the place, and 1 for twins.
-#[derive(Drop)]
+#[derive(Clone, Copy)]
 pub struct Compared {
     pub answer: u32,
     pub place: usize,
@@ -27,14 +29,14 @@ pub struct Compared {
 }
 
 // A component row, and how far a walk that has come to it is in the two other tables.
-#[derive(Drop)]
+#[derive(Clone, Copy)]
 pub struct Spot {
     pub row: usize,
     pub cursor: Cursor,
 }
 
 // Whether two components are alike; if so, the spots behind both.
-#[derive(Drop)]
+#[derive(Clone, Copy)]
 pub struct Match {
     pub same: bool,
     pub first: Spot,

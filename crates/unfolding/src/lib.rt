@@ -1,11 +1,13 @@
 // Unfolding of the lines of a calendar feed (RFC 5545, section 3.1), over the bytes as they came.
 // Here document 01 departs from the RFC: docs/DIFFERENCES.md, R-3.
+#![tactic(auto)]
+
 ghost use Rattle.std.specs.Prelude.{◌≡◌, ◌+◌, ◌≤◌, ◌<◌, length, drop, ltb};
 ghost use Rattle.unfolding.specs.Folds.{is_fold, to_fold};
 ghost use Rattle.unfolding.specs.Parts.{Stays, Unfolding};
 
 // A run of bytes that stay ends at `end`, and all up to `next` goes.
-#[derive(Drop)]
+#[derive(Clone, Copy)]
 struct Piece {
     end: usize,
     next: usize,

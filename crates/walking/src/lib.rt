@@ -1,4 +1,6 @@
 // Where the rows of a component stand. The writer and the twin test find them here, in time that stays linear for the tables of a reading.
+#![tactic(auto)]
+
 ghost use Rattle.std.specs.Prelude.{◌≡◌, true, ◌+◌, ◌-◌, ◌≤◌, ◌<◌, ◌/◌, length, take, drop, eqb};
 ghost use Rattle.octets.specs.Choice.{pick};
 ghost use Rattle.tables.specs.Rows.{component_size, property_size, component_at, property_at};
@@ -7,7 +9,7 @@ ghost use Rattle.tables.specs.Fronts.{front, belongs};
 ghost use Rattle.walking.specs.Walk.{deeper, end_of, owned_before, owned_within, owned_by, owned_by_other, held_before, tally, in_order, stands, Reached, Holds};
 
 // How far a walk through the component rows has come in the two other tables.
-#[derive(Drop)]
+#[derive(Clone, Copy)]
 pub struct Cursor {
     pub property: usize,
     pub parameter: usize,
@@ -15,7 +17,7 @@ pub struct Cursor {
 
 // Where the properties of a component stand, from `first` up to `last`, with the first parameter that may be one of theirs;
 // the row behind its subtree; and where its children are looked for.
-#[derive(Drop)]
+#[derive(Clone, Copy)]
 pub struct Window {
     pub first: usize,
     pub last: usize,

@@ -1,4 +1,6 @@
 // The writing rule as a test: which row of three tables is the first that cannot be written.
+#![tactic(auto)]
+
 ghost use Rattle.std.specs.Prelude.{◌≡◌, true, ◌||◌, ◌+◌, ◌/◌, ◌≤◌, length};
 ghost use Rattle.octets.specs.Bytes.{quote, key_byte, other};
 ghost use Rattle.octets.specs.Runs.{only};
@@ -13,7 +15,7 @@ use octets::Class;
 use tables::{ComponentRow, ParameterRow, PropertyRow};
 
 // What one row is found to be.
-#[derive(Drop)]
+#[derive(Clone, Copy)]
 pub enum Verdict {
     Fine,
     Unwritable,
@@ -21,7 +23,7 @@ pub enum Verdict {
 }
 
 // What the tables are found to be: the first row that cannot be written, and why.
-#[derive(Drop)]
+#[derive(Clone, Copy)]
 pub enum Judged {
     Writable,
     Unwritable(usize),

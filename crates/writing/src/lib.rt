@@ -1,4 +1,6 @@
 // The writer: tables that meet the two rules, as the bytes of a calendar.
+#![tactic(auto)]
+
 ghost use Rattle.std.specs.Prelude.{◌≡◌, true, ◌++◌, ◌+◌, ◌≤◌, ◌<◌, ◌/◌, length};
 ghost use Rattle.octets.specs.Bytes.{ascii};
 ghost use Rattle.octets.specs.Runs.{only};
@@ -23,7 +25,7 @@ use walking::{Cursor, Window};
 use writable::Judged;
 
 // A component row to be written: how many levels of children may follow, and whether properties are looked for in windows.
-#[derive(Drop)]
+#[derive(Clone, Copy)]
 pub struct Place {
     pub row: usize,
     pub level: usize,
@@ -31,7 +33,7 @@ pub struct Place {
 }
 
 // A component as it was written: where the output goes on, the row behind its subtree, and how far the walk has come.
-#[derive(Drop)]
+#[derive(Clone, Copy)]
 pub struct Written {
     pub at: usize,
     pub end: usize,

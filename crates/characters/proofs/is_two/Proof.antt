@@ -3,7 +3,7 @@ use borrow.Author.Rules.{rules}
 use Rattle.characters.proofs.is_two.Statement.{statement}
 use Rattle.characters.proofs.is_two.Tie as tie
 
-is_tail_requires : tie.Need-is-tail-requires
+is_tail_requires : tie.Need-is_tail-requires
 is_tail_requires c κs = search rules
 
 returns : tie.Need-returns

@@ -12,104 +12,104 @@ use Rattle.characters.proofs.Cuts.{Back, no_tail_there, back_start, back_end, ba
 use Rattle.characters.proofs.start_within.Statement.{statement}
 use Rattle.characters.proofs.start_within.Tie as tie
 
-abbrev invariant_loop : tie.invariant-loop
-invariant_loop rest room back₀ back = Back rest room back
+abbrev invariant-loop-back : tie.invariant-loop-back
+invariant-loop-back rest room back₀ back = Back rest room back
 
-abbrev decreases_loop : tie.decreases-loop
-decreases_loop rest room back₀ back = room + 1 - back
+abbrev decreases-loop-back : tie.decreases-loop-back
+decreases-loop-back rest room back₀ back = room + 1 - back
 
-abbrev At : (tie.invariant-loop → tie.decreases-loop → Type 0) → Type 0
-At place = place invariant_loop decreases_loop
+abbrev At : (tie.invariant-loop-back → tie.decreases-loop-back → Type 0) → Type 0
+At place = place invariant-loop-back decreases-loop-back
 
 -- what the proofs look back to
-abbrev at_start : At tie.After-is-tail → At tie.Start
+abbrev at_start : At tie.After-is_tail → At tie.Start
 at_start c = c.before.before.before
 
-abbrev before_loop : At tie.At-loop → At tie.Start
+abbrev before_loop : At tie.At-loop-back → At tie.Start
 before_loop c = at_start c.before.before
 
-abbrev in_loop : At tie.Then2 → At tie.In-loop
+abbrev in_loop : At tie.Then-not-is_tail-2 → At tie.In-loop-back
 in_loop c = c.before.before.before
 
-abbrev back_of : At tie.In-loop → ℕ
-back_of c = c.before.loop.back
+abbrev back_of : At tie.In-loop-back → ℕ
+back_of c = c.loop-back.back
 
-abbrev room_of : At tie.In-loop → ℕ
+abbrev room_of : At tie.In-loop-back → ℕ
 room_of c = (before_loop c.before).args.room
 
-abbrev byte_of : At tie.In-loop → ℕ
+abbrev byte_of : At tie.In-loop-back → ℕ
 byte_of c = get_or (before_loop c.before).args.rest.now (room_of c - back_of c) 0
 
 -- a byte stands before the tails
-before_tails : (c : At tie.In-loop) → back_of c ≤ room_of c
-before_tails c = leb-true (back_of c) (room_of c) (both (leb (back_of c) 3) (leb (back_of c) (room_of c)) c.loop-test.true).1
+before_tails : (c : At tie.In-loop-back) → back_of c ≤ room_of c
+before_tails c = leb-true (back_of c) (room_of c) (both (leb (back_of c) 3) (leb (back_of c) (room_of c)) c.loop-back-test.true).1
 
 -- and is none
-no_tail : (c : At tie.Then2) → tail (byte_of (in_loop c)) ≡ false
-no_tail c = sym c.before.is-tail2.ensures ∙ not-true c.before.is-tail2.result c.if2.true
+no_tail : (c : At tie.Then-not-is_tail-2) → tail (byte_of (in_loop c)) ≡ false
+no_tail c = sym c.is_tail-in-loop-back.ensures ∙ not-true c.is_tail-in-loop-back.result c.if-not-is_tail-2.true-raw
 
-shared_slice_read_is_tail : tie.Need-shared-slice-read-is-tail invariant_loop decreases_loop
-shared_slice_read_is_tail c = c.before.before.requires
+shared_slice_read_is_tail : tie.Need-bounds-rest-room invariant-loop-back decreases-loop-back
+shared_slice_read_is_tail c = c.requires
 
-is_tail_requires : tie.Need-is-tail-requires invariant_loop decreases_loop
+is_tail_requires : tie.Need-is_tail-requires invariant-loop-back decreases-loop-back
 is_tail_requires c κs = tt
 
-returns : tie.Need-returns invariant_loop decreases_loop
+returns : tie.Need-returns-then-not-is_tail invariant-loop-back decreases-loop-back
 returns c =
     let a = at_start c.before in
-    no_tail_there a.args.rest.now a.args.room a.pre (sym c.before.is-tail.ensures ∙ not-true c.before.is-tail.result c.if1.true)
+    no_tail_there a.args.rest.now a.args.room a.requires (sym c.is_tail.ensures ∙ not-true c.is_tail.result c.if-not-is_tail.true-raw)
 
-loop_holds : tie.Need-loop-init invariant_loop decreases_loop
+loop_holds : tie.Need-loop-back-init invariant-loop-back decreases-loop-back
 loop_holds c =
     let a = at_start c.before in
-    back_start a.args.rest.now a.args.room a.pre (sym c.before.is-tail.ensures ∙ not-false c.before.is-tail.result c.if1.false)
+    back_start a.args.rest.now a.args.room a.requires (sym c.is_tail.ensures ∙ not-false c.is_tail.result c.if-not-is_tail.false-raw)
 
-sub_b : tie.Need-overflow-sub-b invariant_loop decreases_loop
+sub_b : tie.Need-overflow_sub-b invariant-loop-back decreases-loop-back
 sub_b c = before_tails c
 
-shared_slice_read_b : tie.Need-shared-slice-read-b invariant_loop decreases_loop
-shared_slice_read_b c = omega (arith, (before_loop c.before.before).pre)
+shared_slice_read_b : tie.Need-bounds-rest-room-in-loop-back invariant-loop-back decreases-loop-back
+shared_slice_read_b c = omega (arith, (before_loop c.before.before).requires)
 
-is_tail_requires_2 : tie.Need-is-tail-requires-2 invariant_loop decreases_loop
+is_tail_requires_2 : tie.Need-is_tail-requires-in-loop-back invariant-loop-back decreases-loop-back
 is_tail_requires_2 c κs = tt
 
-tails_wanted_requires : tie.Need-tails-wanted-requires invariant_loop decreases_loop
+tails_wanted_requires : tie.Need-tails_wanted-requires invariant-loop-back decreases-loop-back
 tails_wanted_requires c κs = tt
 
-sub_result : tie.Need-overflow-sub-result invariant_loop decreases_loop
+sub_result : tie.Need-overflow_sub-result invariant-loop-back decreases-loop-back
 sub_result c = before_tails (in_loop c.before.before)
 
-returns_2 : tie.Need-returns-2 invariant_loop decreases_loop
+returns_2 : tie.Need-returns-then-back-tails_wanted invariant-loop-back decreases-loop-back
 returns_2 c =
     let l = in_loop c.before.before in
-    asked l.before.loop.inv (before_loop l.before).pre (before_tails l) (no_tail c.before.before) (rw c.before.tails-wanted.ensures at c.if3.true)
+    asked l.loop-back.invariant (before_loop l.before).requires (before_tails l) (no_tail c.before.before) (rw c.tails_wanted.ensures at c.if-back-tails_wanted.true)
 
-returns_3 : tie.Need-returns-3 invariant_loop decreases_loop
+returns_3 : tie.Need-returns-then-not-is_tail-2 invariant-loop-back decreases-loop-back
 returns_3 c =
     let l = in_loop c.before.before in
-    not_asked l.before.loop.inv (before_loop l.before).pre (before_tails l) (no_tail c.before.before) (rw c.before.tails-wanted.ensures at c.if3.false)
+    not_asked l.loop-back.invariant (before_loop l.before).requires (before_tails l) (no_tail c.before.before) (rw c.tails_wanted.ensures at c.if-back-tails_wanted.false)
 
-add_back : tie.Need-overflow-add-back invariant_loop decreases_loop
+add_back : tie.Need-overflow_add-back invariant-loop-back decreases-loop-back
 add_back c = omega (arith, before_tails c.before.before.before)
 
-loop_less : tie.Need-loop-smaller invariant_loop decreases_loop
+loop_less : tie.Need-loop-back-smaller invariant-loop-back decreases-loop-back
 loop_less c = omega (arith, before_tails c.before.before.before)
 
-loop_again : tie.Need-loop-preserved invariant_loop decreases_loop
+loop_again : tie.Need-loop-back-preserved invariant-loop-back decreases-loop-back
 loop_again c =
     let l = c.before.before.before in
-    back_more l.before.loop.invariant (before_loop l.before).pre (before_tails l)
-    (sym c.before.is-tail2.ensures ∙ not-false c.before.is-tail2.result c.if2.false)
+    back_more l.loop-back.invariant (before_loop l.before).requires (before_tails l)
+    (sym c.is_tail-in-loop-back.ensures ∙ not-false c.is_tail-in-loop-back.result c.if-not-is_tail-2.false-raw)
 
-returns_4 : tie.Need-returns-4 invariant_loop decreases_loop
-returns_4 c = back_end c.before.loop.invariant (before_loop c.before).pre c.loop-test.false
+returns_4 : tie.Need-returns invariant-loop-back decreases-loop-back
+returns_4 c = back_end c.loop-back.invariant (before_loop c.before).requires c.loop-back-test.false
 
 pub start_within_spec : {M : Type 1} → statement M
 start_within_spec =
     tie.close
     (tie.spec
-    invariant_loop
-    decreases_loop
+    invariant-loop-back
+    decreases-loop-back
     shared_slice_read_is_tail
     is_tail_requires
     returns

@@ -15,53 +15,53 @@ use Rattle.checking.proofs.broken_parameter.Tie as tie
 abbrev seen_after : ℕ → ℕ → ParameterRow → ℕ
 seen_after row seen p = p.property
 
-abbrev invariant_loop : tie.invariant-loop
-invariant_loop size properties first table n before₀ row₀ before row =
+abbrev invariant-loop-row : tie.invariant-loop-row
+invariant-loop-row size properties first table n before₀ row₀ before row =
     Passed (parameter_fits size properties) seen_after parameter_size parameter_at table first 0 row before
 
-abbrev decreases_loop : tie.decreases-loop
-decreases_loop size properties first table n before₀ row₀ before row = n - row
+abbrev decreases-loop-row : tie.decreases-loop-row
+decreases-loop-row size properties first table n before₀ row₀ before row = n - row
 
-parameter_rows_requires : tie.Need-parameter-rows-requires invariant_loop decreases_loop
+parameter_rows_requires : tie.Need-parameter_rows-n-requires invariant-loop-row decreases-loop-row
 parameter_rows_requires c κs = search rules
 
-loop_holds : tie.Need-loop-init invariant_loop decreases_loop
+loop_holds : tie.Need-loop-row-init invariant-loop-row decreases-loop-row
 loop_holds c = start
 
-parameter_at_requires : tie.Need-parameter-at-requires invariant_loop decreases_loop
+parameter_at_requires : tie.Need-parameter_at-p-requires invariant-loop-row decreases-loop-row
 parameter_at_requires c κs = search rules
 
-parameter_fits_requires : tie.Need-parameter-fits-requires invariant_loop decreases_loop
+parameter_fits_requires : tie.Need-parameter_fits-requires invariant-loop-row decreases-loop-row
 parameter_fits_requires c κs = search rules
 
-add_t11 : tie.Need-overflow-add-t11 invariant_loop decreases_loop
+add_t11 : tie.Need-overflow_add-result invariant-loop-row decreases-loop-row
 add_t11 c = omega arith
 
-returns : tie.Need-returns invariant_loop decreases_loop
+returns : tie.Need-returns-then-not-parameter_fits invariant-loop-row decreases-loop-row
 returns c =
-    breaking c.before.before.before.before.loop.invariant (omega arith) c.before.before.parameter-at.ensures
-    (sym c.before.parameter_fits.ensures ∙ not-true _ c.if1.true)
+    breaking c.loop-row.invariant (omega arith) c.parameter_at-p.ensures
+    (sym c.parameter_fits.ensures ∙ not-true _ c.if-not-parameter_fits.true-raw)
 
-add_row : tie.Need-overflow-add-row invariant_loop decreases_loop
+add_row : tie.Need-overflow_add-row invariant-loop-row decreases-loop-row
 add_row c = omega arith
 
-loop_less : tie.Need-loop-smaller invariant_loop decreases_loop
+loop_less : tie.Need-loop-row-smaller invariant-loop-row decreases-loop-row
 loop_less c = omega arith
 
-loop_again : tie.Need-loop-preserved invariant_loop decreases_loop
+loop_again : tie.Need-loop-row-preserved invariant-loop-row decreases-loop-row
 loop_again c =
-    fitting c.before.before.before.before.loop.invariant (omega arith) c.before.before.parameter-at.ensures
-    (sym c.before.parameter_fits.ensures ∙ not-false _ c.if1.false)
+    fitting c.loop-row.invariant (omega arith) c.parameter_at-p.ensures
+    (sym c.parameter_fits.ensures ∙ not-false _ c.if-not-parameter_fits.false-raw)
 
-returns_2 : tie.Need-returns-2 invariant_loop decreases_loop
-returns_2 c = end c.before.loop.invariant (omega arith)
+returns_2 : tie.Need-returns invariant-loop-row decreases-loop-row
+returns_2 c = end c.loop-row.invariant (omega arith)
 
 pub broken_parameter_spec : {M : Type 1} → statement M
 broken_parameter_spec =
     tie.close
     (tie.spec
-    invariant_loop
-    decreases_loop
+    invariant-loop-row
+    decreases-loop-row
     parameter_rows_requires
     loop_holds
     parameter_at_requires

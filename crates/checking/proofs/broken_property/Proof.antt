@@ -19,52 +19,52 @@ seen_after row seen p = seen
 abbrev fits : ℕ → ℕ → Bool → PropertyRow → Bool
 fits size components seen = property_fits size components
 
-abbrev invariant_loop : tie.invariant-loop
-invariant_loop size components table n row₀ row = Passed (fits size components) seen_after property_size property_at table components true row true
+abbrev invariant-loop-row : tie.invariant-loop-row
+invariant-loop-row size components table n row₀ row = Passed (fits size components) seen_after property_size property_at table components true row true
 
-abbrev decreases_loop : tie.decreases-loop
-decreases_loop size components table n row₀ row = n - row
+abbrev decreases-loop-row : tie.decreases-loop-row
+decreases-loop-row size components table n row₀ row = n - row
 
-property_rows_requires : tie.Need-property-rows-requires invariant_loop decreases_loop
+property_rows_requires : tie.Need-property_rows-n-requires invariant-loop-row decreases-loop-row
 property_rows_requires c κs = search rules
 
-loop_holds : tie.Need-loop-init invariant_loop decreases_loop
+loop_holds : tie.Need-loop-row-init invariant-loop-row decreases-loop-row
 loop_holds c = start
 
-property_at_requires : tie.Need-property-at-requires invariant_loop decreases_loop
+property_at_requires : tie.Need-property_at-requires invariant-loop-row decreases-loop-row
 property_at_requires c κs = search rules
 
-property_fits_requires : tie.Need-property-fits-requires invariant_loop decreases_loop
+property_fits_requires : tie.Need-property_fits-requires invariant-loop-row decreases-loop-row
 property_fits_requires c κs = search rules
 
-add_t9 : tie.Need-overflow-add-t9 invariant_loop decreases_loop
+add_t9 : tie.Need-overflow_add-result invariant-loop-row decreases-loop-row
 add_t9 c = omega arith
 
-returns : tie.Need-returns invariant_loop decreases_loop
+returns : tie.Need-returns-then-not-property_fits invariant-loop-row decreases-loop-row
 returns c =
-    breaking c.before.before.before.before.loop.invariant (omega arith) c.before.before.property-at.ensures
-    (sym c.before.property_fits.ensures ∙ not-true _ c.if1.true)
+    breaking c.loop-row.invariant (omega arith) c.property_at.ensures
+    (sym c.property_fits.ensures ∙ not-true _ c.if-not-property_fits.true-raw)
 
-add_row : tie.Need-overflow-add-row invariant_loop decreases_loop
+add_row : tie.Need-overflow_add-row invariant-loop-row decreases-loop-row
 add_row c = omega arith
 
-loop_less : tie.Need-loop-smaller invariant_loop decreases_loop
+loop_less : tie.Need-loop-row-smaller invariant-loop-row decreases-loop-row
 loop_less c = omega arith
 
-loop_again : tie.Need-loop-preserved invariant_loop decreases_loop
+loop_again : tie.Need-loop-row-preserved invariant-loop-row decreases-loop-row
 loop_again c =
-    fitting c.before.before.before.before.loop.invariant (omega arith) c.before.before.property-at.ensures
-    (sym c.before.property_fits.ensures ∙ not-false _ c.if1.false)
+    fitting c.loop-row.invariant (omega arith) c.property_at.ensures
+    (sym c.property_fits.ensures ∙ not-false _ c.if-not-property_fits.false-raw)
 
-returns_2 : tie.Need-returns-2 invariant_loop decreases_loop
-returns_2 c = end c.before.loop.invariant (omega arith)
+returns_2 : tie.Need-returns invariant-loop-row decreases-loop-row
+returns_2 c = end c.loop-row.invariant (omega arith)
 
 pub broken_property_spec : {M : Type 1} → statement M
 broken_property_spec =
     tie.close
     (tie.spec
-    invariant_loop
-    decreases_loop
+    invariant-loop-row
+    decreases-loop-row
     property_rows_requires
     loop_holds
     property_at_requires

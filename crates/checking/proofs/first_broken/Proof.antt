@@ -7,67 +7,67 @@ use borrow.Author.Rules.{rules}
 use Rattle.checking.proofs.first_broken.Statement.{statement}
 use Rattle.checking.proofs.first_broken.Tie as tie
 
-abbrev lent_of : tie.After-component-rows → Lent
+abbrev lent_of : tie.After-component_rows-component_rows → Lent
 lent_of c =
-    let s = c.before.before.before.before.before.args in
+    let s = c.args in
     lent s.text.now s.components.now s.properties.now s.parameters.now
 
-component_rows_requires : tie.Need-component-rows-requires
+component_rows_requires : tie.Need-component_rows-component_rows-requires
 component_rows_requires c κs = search rules
 
-returns : tie.Need-returns
-returns c = no_component (lent_of c.before) _ c.before.component_rows.ensures c.if1.true
+returns : tie.Need-returns-then-component_rows-eq0
+returns c = no_component (lent_of c.before) _ c.component_rows-component_rows.ensures c.if-component_rows-eq0.true
 
-broken_component_requires : tie.Need-broken-component-requires
+broken_component_requires : tie.Need-broken_component-component-requires
 broken_component_requires c κs = search rules
 
-enum_told : tie.Need-enum-told
+enum_told : tie.Need-enum_told-1
 enum_told c = search rules
 
-enum_told_2 : tie.Need-enum-told-2
+enum_told_2 : tie.Need-enum_told-in_default
 enum_told_2 c = search rules
 
-returns_2 : tie.Need-returns-2
+returns_2 : tie.Need-returns-in_default
 returns_2 c =
-    let s = c.before.before.before in
-    in_components (lent_of s.before) _ s.before.component_rows.ensures s.if1.false _ c.enum-told2.given.0.0 c.enum-told2.given.1
-    c.before.before.broken-component.ensures
+    let s = c in
+    in_components (lent_of s.before.before.before) _ s.component_rows-component_rows.ensures s.if-component_rows-eq0.false _ c.in_default.field-0 c.in_default.is
+    c.broken_component-component.ensures
 
-broken_property_requires : tie.Need-broken-property-requires
+broken_property_requires : tie.Need-broken_property-property-requires
 broken_property_requires c κs = search rules
 
-enum_told_3 : tie.Need-enum-told-3
+enum_told_3 : tie.Need-enum_told-in-Nothing-property
 enum_told_3 c = search rules
 
-enum_told_4 : tie.Need-enum-told-4
+enum_told_4 : tie.Need-enum_told-in_default-property
 enum_told_4 c = search rules
 
-returns_3 : tie.Need-returns-3
+returns_3 : tie.Need-returns-in_default-property
 returns_3 c =
-    let t = c.before.before.before in
-    let s = t.before.before.before in
-    in_properties (lent_of s.before) _ s.before.component_rows.ensures s.if1.false
-    (sym t.before.before.broken-component.ensures ∙ t.enum_told.given.1)
-    _ c.enum-told4.given.0.0 c.enum-told4.given.1 c.before.before.broken-property.ensures
+    let t = c in
+    let s = t in
+    in_properties (lent_of s.before.before.before.before.before) _ s.component_rows-component_rows.ensures s.if-component_rows-eq0.false
+    (sym t.broken_component-component.ensures ∙ t.in-Nothing.is)
+    _ c.in_default-property.field-0 c.in_default-property.is c.broken_property-property.ensures
 
-property_rows_requires : tie.Need-property-rows-requires
+property_rows_requires : tie.Need-property_rows-property_rows-requires
 property_rows_requires c κs = search rules
 
-add_broken_parameter : tie.Need-overflow-add-broken-parameter
+add_broken_parameter : tie.Need-overflow_add-component_rows
 add_broken_parameter c = search rules
 
-broken_parameter_requires : tie.Need-broken-parameter-requires
+broken_parameter_requires : tie.Need-broken_parameter-requires
 broken_parameter_requires c κs = search rules
 
-returns_4 : tie.Need-returns-4
+returns_4 : tie.Need-returns
 returns_4 c =
-    let u = c.before.before in
-    let t = u.before.before.before in
-    let s = t.before.before.before in
-    in_parameters (lent_of s.before) _ s.before.component_rows.ensures s.if1.false
-    (sym t.before.before.broken-component.ensures ∙ t.enum_told.given.1)
-    (sym u.before.before.broken-property.ensures ∙ u.enum-told3.given.1)
-    _ c.before.property_rows.ensures _ c.broken-parameter.ensures
+    let u = c in
+    let t = u in
+    let s = t in
+    in_parameters (lent_of s.before.before.before.before.before.before.before) _ s.component_rows-component_rows.ensures s.if-component_rows-eq0.false
+    (sym t.broken_component-component.ensures ∙ t.in-Nothing.is)
+    (sym u.broken_property-property.ensures ∙ u.in-Nothing-property.is)
+    _ c.property_rows-property_rows.ensures _ c.broken_parameter.ensures
 
 pub first_broken_spec : {M : Type 1} → statement M
 first_broken_spec =

@@ -6,49 +6,49 @@ use Rattle.checking.proofs.Chains.{on_top, astray, decides}
 use Rattle.checking.proofs.nested.Statement.{statement}
 use Rattle.checking.proofs.nested.Tie as tie
 
-cast_own : tie.Need-overflow-cast-own
+cast_own : tie.Need-overflow_cast-own
 cast_own c = search rules
 
-returns : tie.Need-returns
+returns : tie.Need-returns-then-c-eq-NO_PARENT
 returns c =
-    let s = c.before.before.before.args in
-    on_top s.rows.now s.depth s.c c.if1.true
+    let s = c.args in
+    on_top s.rows.now s.depth s.c c.if-c-eq-NO_PARENT.true
 
-returns_2 : tie.Need-returns-2
+returns_2 : tie.Need-returns-then-own-lt2
 returns_2 c =
-    let s = c.before.before.before.before.args in
-    astray s.rows.now s.depth s.c c.before.if1.false (λ j l own few e. omega arith)
+    let s = c.args in
+    astray s.rows.now s.depth s.c c.if-c-eq-NO_PARENT.false (λ j l own few e. omega arith)
 
-sub_if3 : tie.Need-overflow-sub-if3
+sub_if3 : tie.Need-overflow_sub-own
 sub_if3 c = search rules
 
-returns_3 : tie.Need-returns-3
+returns_3 : tie.Need-returns-then-depth-own
 returns_3 c =
-    let t = c.before.before in
-    let s = t.before.before.before.args in
-    astray s.rows.now s.depth s.c t.if1.false (λ j l own few e. omega arith)
+    let t = c in
+    let s = t.args in
+    astray s.rows.now s.depth s.c t.if-c-eq-NO_PARENT.false (λ j l own few e. omega arith)
 
-returns_4 : tie.Need-returns-4
+returns_4 : tie.Need-returns-then-own-gt-DEEPEST
 returns_4 c =
-    let t = c.before.before.before in
-    let s = t.before.before.before.args in
-    astray s.rows.now s.depth s.c t.if1.false (λ j l own few e. omega arith)
+    let t = c in
+    let s = t.args in
+    astray s.rows.now s.depth s.c t.if-c-eq-NO_PARENT.false (λ j l own few e. omega arith)
 
-mul_result : tie.Need-overflow-mul-result
+mul_result : tie.Need-offset_bounds-rows-own
 mul_result c = search rules
 
-element_copy_out_result : tie.Need-element-copy-out-result
+element_copy_out_result : tie.Need-bounds-rows-own
 element_copy_out_result c = search rules
 
-cast_result : tie.Need-overflow-cast-result
+cast_result : tie.Need-overflow_cast-result
 cast_result c = search rules
 
-returns_5 : tie.Need-returns-5
+returns_5 : tie.Need-returns
 returns_5 c =
-    let u = c.before.before in
-    let t = u.before.before.before in
-    let s = t.before.before.before in
-    decides s.args.rows.now s.args.depth s.args.c t.if1.false s.requires (omega arith) (omega arith) (omega arith)
+    let u = c in
+    let t = u in
+    let s = t in
+    decides s.args.rows.now s.args.depth s.args.c t.if-c-eq-NO_PARENT.false s.requires (omega arith) (omega arith) (omega arith)
 
 pub nested_spec : {M : Type 1} → statement M
 nested_spec =

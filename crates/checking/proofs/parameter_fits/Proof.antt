@@ -13,7 +13,7 @@ inside_requires_2 c κs = search rules
 rising_requires : tie.Need-rising-requires
 rising_requires c κs = search rules
 
-presence_fits_requires : tie.Need-presence-fits-requires
+presence_fits_requires : tie.Need-presence_fits-requires
 presence_fits_requires c κs = search rules
 
 returns : tie.Need-returns

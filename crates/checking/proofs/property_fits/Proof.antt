@@ -10,7 +10,7 @@ inside_requires c κs = search rules
 inside_requires_2 : tie.Need-inside-requires-2
 inside_requires_2 c κs = search rules
 
-cast_result : tie.Need-overflow-cast-result
+cast_result : tie.Need-overflow_cast-result
 cast_result c = search rules
 
 returns : tie.Need-returns

@@ -10,73 +10,73 @@ use Rattle.comparing.proofs.Rows.{count_starts, count_on, count_over}
 use Rattle.comparing.proofs.many_in.Statement.{statement}
 use Rattle.comparing.proofs.many_in.Tie as tie
 
-abbrev invariant_loop : tie.invariant-loop
-invariant_loop text table row first count found₀ i₀ found i =
+abbrev invariant-loop-i : tie.invariant-loop-i
+invariant-loop-i text table row first count found₀ i₀ found i =
     (i ≤ count) × (found ≤ i) × (found + many_in text table row (first + i) (count - i) ≡ many_in text table row first count)
 
-abbrev decreases_loop : tie.decreases-loop
-decreases_loop text table row first count found₀ i₀ found i = count - i
+abbrev decreases-loop-i : tie.decreases-loop-i
+decreases-loop-i text table row first count found₀ i₀ found i = count - i
 
-abbrev At : (tie.invariant-loop → tie.decreases-loop → Type 0) → Type 0
-At R = R invariant_loop decreases_loop
+abbrev At : (tie.invariant-loop-i → tie.decreases-loop-i → Type 0) → Type 0
+At R = R invariant-loop-i decreases-loop-i
 
-abbrev loop_of : At tie.After-same-rows → At tie.At-loop
+abbrev loop_of : At tie.After-same_rows → At tie.At-loop-i
 loop_of c = c.before.before
 
-abbrev start_of : At tie.At-loop → At tie.Start
+abbrev start_of : At tie.At-loop-i → At tie.Start
 start_of l = l.before.before.before
 
 -- one turn: the next row counts, or it does not
-turn : (c : At tie.After-same-rows) {t : Bool} → c.same_rows.result ≡ t →
+turn : (c : At tie.After-same_rows) {t : Bool} → c.same_rows.result ≡ t →
     let l = loop_of c in
     let s = (start_of l).args in
-    many_in s.text.now s.parameters.now s.row (s.first + l.loop.i) (s.count - l.loop.i)
-    ≡ pick t 1 0 + many_in s.text.now s.parameters.now s.row (s.first + (l.loop.i + 1)) (s.count - (l.loop.i + 1))
+    many_in s.text.now s.parameters.now s.row (s.first + l.loop-i.i) (s.count - l.loop-i.i)
+    ≡ pick t 1 0 + many_in s.text.now s.parameters.now s.row (s.first + (l.loop-i.i + 1)) (s.count - (l.loop-i.i + 1))
 turn c e =
     let l = loop_of c in
     let s = (start_of l).args in
-    count_on s.text.now s.parameters.now s.row s.first s.count l.loop.i c.before.loop-test.true (omega arith) (sym c.same_rows.ensures ∙ e)
+    count_on s.text.now s.parameters.now s.row s.first s.count l.loop-i.i c.loop-i-test.true (omega arith) (sym c.same_rows.ensures ∙ e)
 
-loop_holds : tie.Need-loop-init invariant_loop decreases_loop
+loop_holds : tie.Need-loop-i-init invariant-loop-i decreases-loop-i
 loop_holds c =
-    let s = c.before.before.args in
+    let s = c.args in
     (omega arith, omega arith, omega (arith, count_starts s.text.now s.parameters.now s.row s.first s.count))
 
-add_same_rows : tie.Need-overflow-add-same-rows invariant_loop decreases_loop
+add_same_rows : tie.Need-overflow_add-first invariant-loop-i decreases-loop-i
 add_same_rows c = omega arith
 
-same_rows_requires : tie.Need-same-rows-requires invariant_loop decreases_loop
+same_rows_requires : tie.Need-same_rows-requires invariant-loop-i decreases-loop-i
 same_rows_requires c κs = (omega arith, omega arith)
 
-add_found : tie.Need-overflow-add-found invariant_loop decreases_loop
+add_found : tie.Need-overflow_add-found invariant-loop-i decreases-loop-i
 add_found c = omega arith
 
-add_i : tie.Need-overflow-add-i invariant_loop decreases_loop
+add_i : tie.Need-overflow_add-i invariant-loop-i decreases-loop-i
 add_i c = omega arith
 
-loop_less : tie.Need-loop-smaller invariant_loop decreases_loop
+loop_less : tie.Need-loop-i-smaller invariant-loop-i decreases-loop-i
 loop_less c = omega arith
 
-loop_again : tie.Need-loop-preserved invariant_loop decreases_loop
+loop_again : tie.Need-loop-i-preserved invariant-loop-i decreases-loop-i
 loop_again c =
     let l = loop_of c.before in
     ⊎_elim
-    (λ w. (omega arith, omega (arith, w.1), omega (arith, w.1, turn c.before w.0.taken, l.loop.inv.2)))
-    (λ w. (omega arith, omega (arith, w.1), omega (arith, w.1, turn c.before w.0.left, l.loop.inv.2)))
-    c.if1.branch
+    (λ w. (omega arith, omega (arith, w.found-is), omega (arith, w.found-is, turn c.before w.if-same_rows.true, l.loop-i.invariant.2)))
+    (λ w. (omega arith, omega (arith, w.found-is), omega (arith, w.found-is, turn c.before w.if-same_rows.false, l.loop-i.invariant.2)))
+    c.if-same_rows.branch-raw
 
-returns : tie.Need-returns invariant_loop decreases_loop
+returns : tie.Need-returns invariant-loop-i decreases-loop-i
 returns c =
     let l = c.before in
     let s = (start_of l).args in
-    omega (arith, count_over s.text.now s.parameters.now s.row s.first s.count l.loop.i c.loop-test.false, l.loop.invariant.2)
+    omega (arith, count_over s.text.now s.parameters.now s.row s.first s.count l.loop-i.i c.loop-i-test.false, l.loop-i.invariant.2)
 
 pub many_in_spec : {M : Type 1} → statement M
 many_in_spec =
     tie.close
     (tie.spec
-    invariant_loop
-    decreases_loop
+    invariant-loop-i
+    decreases-loop-i
     loop_holds
     add_same_rows
     same_rows_requires

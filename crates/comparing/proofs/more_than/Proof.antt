@@ -11,82 +11,82 @@ use Rattle.comparing.proofs.Rows.{count_starts, count_on, count_over}
 use Rattle.comparing.proofs.more_than.Statement.{statement}
 use Rattle.comparing.proofs.more_than.Tie as tie
 
-abbrev invariant_loop : tie.invariant-loop
-invariant_loop text table row first count many left₀ i₀ left i =
+abbrev invariant-loop-i : tie.invariant-loop-i
+invariant-loop-i text table row first count many left₀ i₀ left i =
     (i ≤ count) × (left + many_in text table row first count ≡ many + many_in text table row (first + i) (count - i))
 
-abbrev decreases_loop : tie.decreases-loop
-decreases_loop text table row first count many left₀ i₀ left i = count - i
+abbrev decreases-loop-i : tie.decreases-loop-i
+decreases-loop-i text table row first count many left₀ i₀ left i = count - i
 
-abbrev At : (tie.invariant-loop → tie.decreases-loop → Type 0) → Type 0
-At R = R invariant_loop decreases_loop
+abbrev At : (tie.invariant-loop-i → tie.decreases-loop-i → Type 0) → Type 0
+At R = R invariant-loop-i decreases-loop-i
 
-abbrev loop_of : At tie.After-same-rows → At tie.At-loop
+abbrev loop_of : At tie.After-same_rows → At tie.At-loop-i
 loop_of c = c.before.before
 
-abbrev start_of : At tie.At-loop → At tie.Start
+abbrev start_of : At tie.At-loop-i → At tie.Start
 start_of l = l.before.before.before
 
 -- one turn: the next row counts, or it does not
-turn : (c : At tie.After-same-rows) {t : Bool} → c.same_rows.result ≡ t →
+turn : (c : At tie.After-same_rows) {t : Bool} → c.same_rows.result ≡ t →
     let l = loop_of c in
     let s = (start_of l).args in
-    many_in s.text.now s.parameters.now s.row (s.first + l.loop.i) (s.count - l.loop.i)
-    ≡ pick t 1 0 + many_in s.text.now s.parameters.now s.row (s.first + (l.loop.i + 1)) (s.count - (l.loop.i + 1))
+    many_in s.text.now s.parameters.now s.row (s.first + l.loop-i.i) (s.count - l.loop-i.i)
+    ≡ pick t 1 0 + many_in s.text.now s.parameters.now s.row (s.first + (l.loop-i.i + 1)) (s.count - (l.loop-i.i + 1))
 turn c e =
     let l = loop_of c in
     let s = (start_of l).args in
-    count_on s.text.now s.parameters.now s.row s.first s.count l.loop.i c.before.loop-test.true (omega arith) (sym c.same_rows.ensures ∙ e)
+    count_on s.text.now s.parameters.now s.row s.first s.count l.loop-i.i c.loop-i-test.true (omega arith) (sym c.same_rows.ensures ∙ e)
 
-loop_holds : tie.Need-loop-init invariant_loop decreases_loop
+loop_holds : tie.Need-loop-i-init invariant-loop-i decreases-loop-i
 loop_holds c =
-    let s = c.before.before.args in
+    let s = c.args in
     (omega arith, omega (arith, count_starts s.text.now s.parameters.now s.row s.first s.count))
 
-add_same_rows : tie.Need-overflow-add-same-rows invariant_loop decreases_loop
+add_same_rows : tie.Need-overflow_add-first invariant-loop-i decreases-loop-i
 add_same_rows c = omega arith
 
-same_rows_requires : tie.Need-same-rows-requires invariant_loop decreases_loop
+same_rows_requires : tie.Need-same_rows-requires invariant-loop-i decreases-loop-i
 same_rows_requires c κs = (omega arith, omega arith)
 
-returns : tie.Need-returns invariant_loop decreases_loop
+returns : tie.Need-returns-then-left-eq0 invariant-loop-i decreases-loop-i
 returns c =
     let r = c.before.before in
     let l = loop_of r in
     let s = (start_of l).args in
     sym (lt-ltb s.many (many_in s.text.now s.parameters.now s.row s.first s.count)
-    (omega (arith, turn r c.before.if1.true, l.loop.inv.1)))
+    (omega (arith, turn r c.if-same_rows.true, l.loop-i.invariant.1)))
 
-sub_left : tie.Need-overflow-sub-left invariant_loop decreases_loop
+sub_left : tie.Need-overflow_sub-left invariant-loop-i decreases-loop-i
 sub_left c = omega arith
 
-add_i : tie.Need-overflow-add-i invariant_loop decreases_loop
+add_i : tie.Need-overflow_add-i invariant-loop-i decreases-loop-i
 add_i c = omega arith
 
-loop_less : tie.Need-loop-smaller invariant_loop decreases_loop
+loop_less : tie.Need-loop-i-smaller invariant-loop-i decreases-loop-i
 loop_less c = omega arith
 
-loop_again : tie.Need-loop-preserved invariant_loop decreases_loop
+loop_again : tie.Need-loop-i-preserved invariant-loop-i decreases-loop-i
 loop_again c =
     let l = loop_of c.before in
     ⊎_elim
-    (λ w. (omega arith, omega (arith, w.1.left, w.2, turn c.before w.0.taken, l.loop.inv.1)))
-    (λ w. (omega arith, omega (arith, w.1, turn c.before w.0.left, l.loop.inv.1)))
-    c.if1.branch
+    (λ w. (omega arith, omega (arith, w.if-left-eq0.false, w.left-is, turn c.before w.if-same_rows.true, l.loop-i.invariant.1)))
+    (λ w. (omega arith, omega (arith, w.left-is, turn c.before w.if-same_rows.false, l.loop-i.invariant.1)))
+    c.if-same_rows.branch-raw
 
-returns_2 : tie.Need-returns-2 invariant_loop decreases_loop
+returns_2 : tie.Need-returns invariant-loop-i decreases-loop-i
 returns_2 c =
     let l = c.before in
     let s = (start_of l).args in
     sym (le-ltb s.many (many_in s.text.now s.parameters.now s.row s.first s.count)
-    (omega (arith, count_over s.text.now s.parameters.now s.row s.first s.count l.loop.i c.loop-test.false, l.loop.invariant.1)))
+    (omega (arith, count_over s.text.now s.parameters.now s.row s.first s.count l.loop-i.i c.loop-i-test.false, l.loop-i.invariant.1)))
 
 pub more_than_spec : {M : Type 1} → statement M
 more_than_spec =
     tie.close
     (tie.spec
-    invariant_loop
-    decreases_loop
+    invariant-loop-i
+    decreases-loop-i
     loop_holds
     add_same_rows
     same_rows_requires

@@ -5,16 +5,16 @@ use Rattle.escapes.proofs.Places.{none_behind}
 use Rattle.escapes.proofs.begins.Statement.{statement}
 use Rattle.escapes.proofs.begins.Tie as tie
 
-returns : tie.Need-returns
-returns c = let a = c.before.before.args in sym (none_behind a.mode a.value.now a.next c.if1.true)
+returns : tie.Need-returns-then-value-next
+returns c = let a = c.args in sym (none_behind a.mode a.value.now a.next c.if-value-next.true)
 
-shared_slice_read_escapable : tie.Need-shared-slice-read-escapable
+shared_slice_read_escapable : tie.Need-bounds-value-next
 shared_slice_read_escapable c = search rules
 
 escapable_requires : tie.Need-escapable-requires
 escapable_requires c κs = search rules
 
-returns_2 : tie.Need-returns-2
+returns_2 : tie.Need-returns
 returns_2 c = search rules
 
 pub begins_spec : {M : Type 1} → statement M

@@ -10,66 +10,66 @@ use Rattle.escapes.proofs.Writing.{value_none, count_at}
 use Rattle.escapes.proofs.block_length.Statement.{statement}
 use Rattle.escapes.proofs.block_length.Tie as tie
 
-abbrev invariant_loop : tie.invariant-loop
-invariant_loop block more₀ i₀ more i = (i ≤ length block) × (more ≤ i) × (i + more + length (as_value (drop i block)) ≡ length (as_value block))
+abbrev invariant-loop-i : tie.invariant-loop-i
+invariant-loop-i block more₀ i₀ more i = (i ≤ length block) × (more ≤ i) × (i + more + length (as_value (drop i block)) ≡ length (as_value block))
 
-abbrev decreases_loop : tie.decreases-loop
-decreases_loop block more₀ i₀ more i = length block - i
+abbrev decreases-loop-i : tie.decreases-loop-i
+decreases-loop-i block more₀ i₀ more i = length block - i
 
-abbrev At : (tie.invariant-loop → tie.decreases-loop → Type 0) → Type 0
-At place = place invariant_loop decreases_loop
+abbrev At : (tie.invariant-loop-i → tie.decreases-loop-i → Type 0) → Type 0
+At place = place invariant-loop-i decreases-loop-i
 
 -- what the proofs look back to
 abbrev block_of : At tie.After-special → List ℕ
-block_of c = c.before.before.before.before.before.args.block.now
+block_of c = c.args.block.now
 
 abbrev place_of : At tie.After-special → ℕ
-place_of c = c.before.before.before.loop.i
+place_of c = c.loop-i.i
 
 -- the byte at i is one more or two
 count_in_turn : (c : At tie.After-special) → let t = c.special.result in
     (bool_byte t ≤ 1) × (length (as_value (drop (place_of c) (block_of c))) ≡ 1 + bool_byte t + length (as_value (drop (place_of c + 1) (block_of c))))
 count_in_turn c = count_at (block_of c) (place_of c) (omega arith) c.special.result c.special.ensures
 
-loop_holds : tie.Need-loop-init invariant_loop decreases_loop
+loop_holds : tie.Need-loop-i-init invariant-loop-i decreases-loop-i
 loop_holds c = (omega arith, omega arith, omega arith)
 
-shared_slice_read_special : tie.Need-shared-slice-read-special invariant_loop decreases_loop
+shared_slice_read_special : tie.Need-bounds-block-i invariant-loop-i decreases-loop-i
 shared_slice_read_special c = omega arith
 
-special_requires : tie.Need-special-requires invariant_loop decreases_loop
+special_requires : tie.Need-special-requires invariant-loop-i decreases-loop-i
 special_requires c κs = tt
 
-cast_more : tie.Need-overflow-cast-more invariant_loop decreases_loop
+cast_more : tie.Need-overflow_cast-more invariant-loop-i decreases-loop-i
 cast_more c = tt
 
-add_more : tie.Need-overflow-add-more invariant_loop decreases_loop
+add_more : tie.Need-overflow_add-more invariant-loop-i decreases-loop-i
 add_more c = omega (arith, count_in_turn c)
 
-add_i : tie.Need-overflow-add-i invariant_loop decreases_loop
+add_i : tie.Need-overflow_add-i invariant-loop-i decreases-loop-i
 add_i c = omega arith
 
-loop_less : tie.Need-loop-smaller invariant_loop decreases_loop
+loop_less : tie.Need-loop-i-smaller invariant-loop-i decreases-loop-i
 loop_less c = omega arith
 
-loop_again : tie.Need-loop-preserved invariant_loop decreases_loop
+loop_again : tie.Need-loop-i-preserved invariant-loop-i decreases-loop-i
 loop_again c = (omega arith, omega (arith, count_in_turn c), omega (arith, count_in_turn c))
 
-cast_result : tie.Need-overflow-cast-result invariant_loop decreases_loop
+cast_result : tie.Need-overflow_cast-result invariant-loop-i decreases-loop-i
 cast_result c = omega arith
 
-add_result : tie.Need-overflow-add-result invariant_loop decreases_loop
+add_result : tie.Need-overflow_add-result invariant-loop-i decreases-loop-i
 add_result c = omega arith
 
-returns : tie.Need-returns invariant_loop decreases_loop
-returns c = omega (arith, ap length (value_none c.before.before.before.args.block.now c.before.loop.i c.loop-test.false))
+returns : tie.Need-returns invariant-loop-i decreases-loop-i
+returns c = omega (arith, ap length (value_none c.args.block.now c.loop-i.i c.loop-i-test.false))
 
 pub block_length_spec : {M : Type 1} → statement M
 block_length_spec =
     tie.close
     (tie.spec
-    invariant_loop
-    decreases_loop
+    invariant-loop-i
+    decreases-loop-i
     loop_holds
     shared_slice_read_special
     special_requires

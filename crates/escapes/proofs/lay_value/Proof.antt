@@ -7,91 +7,91 @@ use Rattle.escapes.proofs.Writing.{Spelling, begin, finish, lent_room, turn_part
 use Rattle.escapes.proofs.lay_value.Statement.{statement}
 use Rattle.escapes.proofs.lay_value.Tie as tie
 
-abbrev invariant_loop : tie.invariant-loop
-invariant_loop text out₀ i₀ at₀ out i at = Spelling out₀ out text i at
+abbrev invariant-loop-i : tie.invariant-loop-i
+invariant-loop-i text out₀ i₀ at₀ out i at = Spelling out₀ out text i at
 
-abbrev decreases_loop : tie.decreases-loop
-decreases_loop text out₀ i₀ at₀ out i at = length text - i
+abbrev decreases-loop-i : tie.decreases-loop-i
+decreases-loop-i text out₀ i₀ at₀ out i at = length text - i
 
-abbrev At : (tie.invariant-loop → tie.decreases-loop → Type 0) → Type 0
-At place = place invariant_loop decreases_loop
+abbrev At : (tie.invariant-loop-i → tie.decreases-loop-i → Type 0) → Type 0
+At place = place invariant-loop-i decreases-loop-i
 
 -- what the proofs look back to
-abbrev least_of : At tie.After-slice-known2 → At tie.After-least
+abbrev least_of : At tie.After-slice_known-in-loop-i-1 → At tie.After-least
 least_of c = c.before.before.before.before.before
 
-abbrev in_loop : At tie.After-least → At tie.At-loop
+abbrev in_loop : At tie.After-least → At tie.At-loop-i
 in_loop c = c.before.before
 
-abbrev start_of : At tie.At-loop → At tie.Start
+abbrev start_of : At tie.At-loop-i → At tie.Start
 start_of c = c.before.before.before
 
 abbrev end_of : At tie.After-least → ℕ
-end_of c = (in_loop c).loop.i + c.least.result
+end_of c = (in_loop c).loop-i.i + c.least.result
 
 -- the part is laid
-turn : (c : At tie.After-slice-known2) → let l = least_of c in let w = (in_loop l).loop in let p = c.before.before.lay-part in let s = (start_of (in_loop l)).args in
-    Spelling s.out.now (take w.at w.out ++ (p.new.1.0 ++ drop (length w.out - w.at) (drop w.at w.out))) s.text.now (end_of l) (w.at + p.result)
+turn : (c : At tie.After-slice_known-in-loop-i-1) → let l = least_of c in let w = (in_loop l).loop-i in let p = c.lay_part-at in let s = (start_of (in_loop l)).args in
+    Spelling s.out.now (take w.at w.out ++ (p.new.out ++ drop (length w.out - w.at) (drop w.at w.out))) s.text.now (end_of l) (w.at + p.result)
 turn c =
     let l = least_of c in
-    turn_part (in_loop l).loop.inv (end_of l) (omega arith) (omega (arith, l.least.ensures)) c.before.before.lay-part.ensures
+    turn_part (in_loop l).loop-i.invariant (end_of l) (omega arith) (omega (arith, l.least.ensures)) c.lay_part-at.ensures
 
-loop_holds : tie.Need-loop-init invariant_loop decreases_loop
-loop_holds c = begin c.before.before.args.out.now c.before.before.args.text.now c.before.before.requires
+loop_holds : tie.Need-loop-i-init invariant-loop-i decreases-loop-i
+loop_holds c = begin c.args.out.now c.args.text.now c.requires
 
-sub_least : tie.Need-overflow-sub-least invariant_loop decreases_loop
+sub_least : tie.Need-overflow_sub-text invariant-loop-i decreases-loop-i
 sub_least c = omega arith
 
-least_requires : tie.Need-least-requires invariant_loop decreases_loop
+least_requires : tie.Need-least-requires invariant-loop-i decreases-loop-i
 least_requires c κs = tt
 
-add_end : tie.Need-overflow-add-end invariant_loop decreases_loop
+add_end : tie.Need-overflow_add-end invariant-loop-i decreases-loop-i
 add_end c = omega (arith, c.least.ensures)
 
-sub_lay_part : tie.Need-overflow-sub-lay-part invariant_loop decreases_loop
+sub_lay_part : tie.Need-slice_bounds-lay_part-count invariant-loop-i decreases-loop-i
 sub_lay_part c = omega arith
 
-part_lay_part_start : tie.Need-slice-bounds-lay-part-start invariant_loop decreases_loop
+part_lay_part_start : tie.Need-slice_bounds-lay_part-start invariant-loop-i decreases-loop-i
 part_lay_part_start c = omega arith
 
-part_lay_part_end : tie.Need-slice-bounds-lay-part-end invariant_loop decreases_loop
+part_lay_part_end : tie.Need-slice_bounds-lay_part-end invariant-loop-i decreases-loop-i
 part_lay_part_end c = omega (arith, c.least.ensures)
 
-sub_lay_part_2 : tie.Need-overflow-sub-lay-part-2 invariant_loop decreases_loop
-sub_lay_part_2 c = let f = (in_loop c.before).loop.inv in omega (arith, f.count, f.room, f.same)
+sub_lay_part_2 : tie.Need-slice_bounds-lay_part-count-in-loop-i invariant-loop-i decreases-loop-i
+sub_lay_part_2 c = let f = (in_loop c.before).loop-i.invariant in omega (arith, f.count, f.room, f.same)
 
-part_lay_part_start_2 : tie.Need-slice-bounds-lay-part-start-2 invariant_loop decreases_loop
-part_lay_part_start_2 c = let f = (in_loop c.before).loop.inv in omega (arith, f.count, f.room, f.same)
+part_lay_part_start_2 : tie.Need-slice_bounds-lay_part-start-in-loop-i invariant-loop-i decreases-loop-i
+part_lay_part_start_2 c = let f = (in_loop c.before).loop-i.invariant in omega (arith, f.count, f.room, f.same)
 
-part_lay_part_end_2 : tie.Need-slice-bounds-lay-part-end-2 invariant_loop decreases_loop
+part_lay_part_end_2 : tie.Need-slice_bounds-lay_part-end-in-loop-i invariant-loop-i decreases-loop-i
 part_lay_part_end_2 c = omega arith
 
-lay_part_requires : tie.Need-lay-part-requires invariant_loop decreases_loop
+lay_part_requires : tie.Need-lay_part-at-requires invariant-loop-i decreases-loop-i
 lay_part_requires c κs =
     let n = c.before.before in
-    (rw length-take (omega (arith, n.least.ensures)), lent_room (in_loop n).loop.invariant (end_of n) (omega arith) (omega (arith, n.least.ensures)))
+    (rw length-take (omega (arith, n.least.ensures)), lent_room (in_loop n).loop-i.invariant (end_of n) (omega arith) (omega (arith, n.least.ensures)))
 
-add_at : tie.Need-overflow-add-at invariant_loop decreases_loop
+add_at : tie.Need-overflow_add-at invariant-loop-i decreases-loop-i
 add_at c = let f = turn c in omega (arith, f.count, f.room)
 
-loop_less : tie.Need-loop-smaller invariant_loop decreases_loop
+loop_less : tie.Need-loop-i-smaller invariant-loop-i decreases-loop-i
 loop_less c = omega (arith, (least_of c).least.ensures)
 
-loop_again : tie.Need-loop-preserved invariant_loop decreases_loop
+loop_again : tie.Need-loop-i-preserved invariant-loop-i decreases-loop-i
 loop_again c = turn c
 
-same_length : tie.Need-same-length invariant_loop decreases_loop
-same_length c = c.before.loop.invariant.same
+same_length : tie.Need-shape_of-out invariant-loop-i decreases-loop-i
+same_length c = c.loop-i.invariant.same
 
-returns : tie.Need-returns invariant_loop decreases_loop
-returns c = finish c.before.loop.invariant c.loop-test.false
+returns : tie.Need-returns invariant-loop-i decreases-loop-i
+returns c = finish c.loop-i.invariant c.loop-i-test.false
 
 pub lay_value_spec : {M : Type 1} → statement M
 lay_value_spec =
     tie.close
     (tie.spec
-    invariant_loop
-    decreases_loop
+    invariant-loop-i
+    decreases-loop-i
     loop_holds
     sub_least
     least_requires

@@ -12,102 +12,102 @@ use Rattle.escapes.proofs.Places.{looked_first, looked_few, looked_plain, looked
 use Rattle.escapes.proofs.look_through.Statement.{statement}
 use Rattle.escapes.proofs.look_through.Tie as tie
 
-abbrev invariant_loop : tie.invariant-loop
-invariant_loop mode value i₀ n₀ i n = Looked mode value i n × (length value ≤ longest)
+abbrev invariant-loop-i : tie.invariant-loop-i
+invariant-loop-i mode value i₀ n₀ i n = Looked mode value i n × (length value ≤ longest)
 
-abbrev decreases_loop : tie.decreases-loop
-decreases_loop mode value i₀ n₀ i n = length value - i
+abbrev decreases-loop-i : tie.decreases-loop-i
+decreases-loop-i mode value i₀ n₀ i n = length value - i
 
-abbrev At : (tie.invariant-loop → tie.decreases-loop → Type 0) → Type 0
-At place = place invariant_loop decreases_loop
+abbrev At : (tie.invariant-loop-i → tie.decreases-loop-i → Type 0) → Type 0
+At place = place invariant-loop-i decreases-loop-i
 
 -- what the proofs look back to
-abbrev in_loop : At tie.After-escapable → At tie.In-loop
+abbrev in_loop : At tie.After-escapable → At tie.In-loop-i
 in_loop c = c.before.before.before.before
 
 -- what a place sees
-abbrev mode_of : At tie.In-loop → Mode
-mode_of c = c.before.before.before.before.args.mode
+abbrev mode_of : At tie.In-loop-i → Mode
+mode_of c = c.args.mode
 
-abbrev value_of_place : At tie.In-loop → List ℕ
-value_of_place c = c.before.before.before.before.args.value.now
+abbrev value_of_place : At tie.In-loop-i → List ℕ
+value_of_place c = c.args.value.now
 
-abbrev i_of : At tie.In-loop → ℕ
-i_of c = c.before.loop.i
+abbrev i_of : At tie.In-loop-i → ℕ
+i_of c = c.loop-i.i
 
-abbrev count_of : At tie.In-loop → ℕ
-count_of c = c.before.loop.count
+abbrev count_of : At tie.In-loop-i → ℕ
+count_of c = c.loop-i.count
 
-here : (c : At tie.In-loop) → i_of c < length (value_of_place c)
+here : (c : At tie.In-loop-i) → i_of c < length (value_of_place c)
 here c = omega arith
 
 -- a plain byte, and an escape
-plain : (c : At tie.Then1) → let l = c.before.before in Looked (mode_of l) (value_of_place l) (i_of l + 1) (count_of l + 1)
-plain c = let l = c.before.before in looked_plain l.before.loop.invariant.0 (here l) c.if1.true
+plain : (c : At tie.Then-value-i-ne92) → let l = c.before.before in Looked (mode_of l) (value_of_place l) (i_of l + 1) (count_of l + 1)
+plain c = let l = c.before.before in looked_plain l.loop-i.invariant.0 (here l) c.if-value-i-ne92.true
 
-escape : (c : At tie.Else2) → let l = in_loop c.before in Looked (mode_of l) (value_of_place l) (i_of l + 2) (count_of l + 1)
+escape : (c : At tie.Else-not-escapable) → let l = in_loop c.before in Looked (mode_of l) (value_of_place l) (i_of l + 2) (count_of l + 1)
 escape c =
     let l = in_loop c.before in
-    looked_escape l.before.loop.inv.0 (here l) c.before.before.before.if1.false
-    (sym c.before.escapable.ensures ∙ not-false c.before.escapable.result c.if2.false)
+    looked_escape l.loop-i.invariant.0 (here l) c.if-value-i-ne92.false
+    (sym c.escapable.ensures ∙ not-false c.escapable.result c.if-not-escapable.false-raw)
 
-find_near_requires : tie.Need-find-near-requires invariant_loop decreases_loop
+find_near_requires : tie.Need-find_near-i-requires invariant-loop-i decreases-loop-i
 find_near_requires c κs = tt
 
-loop_holds : tie.Need-loop-init invariant_loop decreases_loop
-loop_holds c = let s = c.before.before in (looked_first s.args.mode s.args.value.now c.find-near.ensures, s.requires)
+loop_holds : tie.Need-loop-i-init invariant-loop-i decreases-loop-i
+loop_holds c = let s = c in (looked_first s.args.mode s.args.value.now c.find_near-i.ensures, s.requires)
 
-add_loop : tie.Need-overflow-add-loop invariant_loop decreases_loop
-add_loop c = omega (arith, c.loop.invariant.0.inside, c.loop.invariant.1)
+add_loop : tie.Need-overflow_add-i invariant-loop-i decreases-loop-i
+add_loop c = omega (arith, c.loop-i.invariant.0.inside, c.loop-i.invariant.1)
 
-add_next : tie.Need-overflow-add-next invariant_loop decreases_loop
-add_next c = omega (arith, c.before.loop.invariant.1)
+add_next : tie.Need-overflow_add-next invariant-loop-i decreases-loop-i
+add_next c = omega (arith, c.loop-i.invariant.1)
 
-add_count : tie.Need-overflow-add-count invariant_loop decreases_loop
-add_count c = omega (arith, looked_few c.before.loop.invariant.0, c.before.loop.invariant.1)
+add_count : tie.Need-overflow_add-count invariant-loop-i decreases-loop-i
+add_count c = omega (arith, looked_few c.loop-i.invariant.0, c.loop-i.invariant.1)
 
-shared_slice_read_if1 : tie.Need-shared-slice-read-if1 invariant_loop decreases_loop
+shared_slice_read_if1 : tie.Need-bounds-value-i invariant-loop-i decreases-loop-i
 shared_slice_read_if1 c = here c.before
 
-loop_less : tie.Need-loop-smaller invariant_loop decreases_loop
+loop_less : tie.Need-loop-i-smaller-then-value-i-ne92 invariant-loop-i decreases-loop-i
 loop_less c = omega arith
 
-loop_again : tie.Need-loop-preserved invariant_loop decreases_loop
-loop_again c = (plain c, c.before.before.before.loop.invariant.1)
+loop_again : tie.Need-loop-i-preserved-then-value-i-ne92 invariant-loop-i decreases-loop-i
+loop_again c = (plain c, c.loop-i.invariant.1)
 
-shared_slice_read_escapable : tie.Need-shared-slice-read-escapable invariant_loop decreases_loop
-shared_slice_read_escapable c = c.before.before.before.loop-test.true
+shared_slice_read_escapable : tie.Need-bounds-value-next invariant-loop-i decreases-loop-i
+shared_slice_read_escapable c = c.loop-i-test.true
 
-escapable_requires : tie.Need-escapable-requires invariant_loop decreases_loop
+escapable_requires : tie.Need-escapable-requires invariant-loop-i decreases-loop-i
 escapable_requires c κs = tt
 
-returns : tie.Need-returns invariant_loop decreases_loop
+returns : tie.Need-returns-then-not-escapable invariant-loop-i decreases-loop-i
 returns c =
     let l = in_loop c.before in
-    looked_bad l.before.loop.inv.0 (here l) c.before.before.before.if1.false
-    (sym c.before.escapable.ensures ∙ not-true c.before.escapable.result c.if2.true)
+    looked_bad l.loop-i.invariant.0 (here l) c.if-value-i-ne92.false
+    (sym c.escapable.ensures ∙ not-true c.escapable.result c.if-not-escapable.true-raw)
 
-add_i : tie.Need-overflow-add-i invariant_loop decreases_loop
-add_i c = let l = in_loop c.before in omega (arith, here l, l.before.loop.inv.1)
+add_i : tie.Need-overflow_add-i-in-loop-i invariant-loop-i decreases-loop-i
+add_i c = let l = in_loop c.before in omega (arith, here l, l.loop-i.invariant.1)
 
-loop_less_2 : tie.Need-loop-smaller-2 invariant_loop decreases_loop
+loop_less_2 : tie.Need-loop-i-smaller invariant-loop-i decreases-loop-i
 loop_less_2 c = omega (arith, here (in_loop c.before))
 
-loop_again_2 : tie.Need-loop-preserved-2 invariant_loop decreases_loop
-loop_again_2 c = (escape c, (in_loop c.before).before.loop.inv.1)
+loop_again_2 : tie.Need-loop-i-preserved invariant-loop-i decreases-loop-i
+loop_again_2 c = (escape c, (in_loop c.before).loop-i.invariant.1)
 
-look_at_last_requires : tie.Need-look-at-last-requires invariant_loop decreases_loop
-look_at_last_requires c κs = (c.before.loop.invariant.0, c.loop-test.false)
+look_at_last_requires : tie.Need-look_at_last-requires invariant-loop-i decreases-loop-i
+look_at_last_requires c κs = (c.loop-i.invariant.0, c.loop-i-test.false)
 
-returns_2 : tie.Need-returns-2 invariant_loop decreases_loop
-returns_2 c = c.look-at-last.ensures
+returns_2 : tie.Need-returns invariant-loop-i decreases-loop-i
+returns_2 c = c.look_at_last.ensures
 
 pub look_through_spec : {M : Type 1} → statement M
 look_through_spec =
     tie.close
     (tie.spec
-    invariant_loop
-    decreases_loop
+    invariant-loop-i
+    decreases-loop-i
     find_near_requires
     loop_holds
     add_loop

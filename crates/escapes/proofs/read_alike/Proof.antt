@@ -11,74 +11,74 @@ use Rattle.escapes.proofs.Alike.{Sided, sided_start, sided_stop, sided_more, sid
 use Rattle.escapes.proofs.read_alike.Statement.{statement}
 use Rattle.escapes.proofs.read_alike.Tie as tie
 
-abbrev invariant_loop : tie.invariant-loop
-invariant_loop mode a b i₀ j₀ i j = Sided mode a b i j
+abbrev invariant-loop-i : tie.invariant-loop-i
+invariant-loop-i mode a b i₀ j₀ i j = Sided mode a b i j
 
-abbrev decreases_loop : tie.decreases-loop
-decreases_loop mode a b i₀ j₀ i j = length a - i
+abbrev decreases-loop-i : tie.decreases-loop-i
+decreases-loop-i mode a b i₀ j₀ i j = length a - i
 
-abbrev At : (tie.invariant-loop → tie.decreases-loop → Type 0) → Type 0
-At place = place invariant_loop decreases_loop
+abbrev At : (tie.invariant-loop-i → tie.decreases-loop-i → Type 0) → Type 0
+At place = place invariant-loop-i decreases-loop-i
 
 -- what the proofs look back to
-abbrev units_of : At tie.Then1 → At tie.After-unit-at2
+abbrev units_of : At tie.Then-p-q → At tie.After-unit_at-q
 units_of c = c.before.before.before.before.before
 
-abbrev further : At tie.Else1 → At tie.After-unit-at2
+abbrev further : At tie.Else-p-q → At tie.After-unit_at-q
 further c = c.before.before.before.before.before
 
-abbrev in_loop : At tie.After-unit-at2 → At tie.At-loop
+abbrev in_loop : At tie.After-unit_at-q → At tie.At-loop-i
 in_loop c = c.before.before.before
 
 -- both numbers are inside
-below : (c : At tie.In-loop) → let l = c.before in let s = l.before.before.before.args in
-    (ltb l.loop.i (length s.a.now) ≡ true) × (ltb l.loop.j (length s.b.now) ≡ true)
-below c = let l = c.before in let s = l.before.before.before.args in both (ltb l.loop.i (length s.a.now)) (ltb l.loop.j (length s.b.now)) c.loop-test.true
+below : (c : At tie.In-loop-i) → let l = c.before in let s = l.args in
+    (ltb l.loop-i.i (length s.a.now) ≡ true) × (ltb l.loop-i.j (length s.b.now) ≡ true)
+below c = let l = c.before in let s = l.args in both (ltb l.loop-i.i (length s.a.now)) (ltb l.loop-i.j (length s.b.now)) c.loop-i-test.true
 
-loop_holds : tie.Need-loop-init invariant_loop decreases_loop
-loop_holds c = let a = c.before.before.args in sided_start a.mode a.a.now a.b.now
+loop_holds : tie.Need-loop-i-init invariant-loop-i decreases-loop-i
+loop_holds c = let a = c.args in sided_start a.mode a.a.now a.b.now
 
-unit_at_requires : tie.Need-unit-at-requires invariant_loop decreases_loop
+unit_at_requires : tie.Need-unit_at-p-requires invariant-loop-i decreases-loop-i
 unit_at_requires c κs = ltb-true _ _ (below c).0
 
-unit_at_requires_2 : tie.Need-unit-at-requires-2 invariant_loop decreases_loop
+unit_at_requires_2 : tie.Need-unit_at-q-requires invariant-loop-i decreases-loop-i
 unit_at_requires_2 c κs = ltb-true _ _ (below c.before).1
 
-returns : tie.Need-returns invariant_loop decreases_loop
-returns c = let k = units_of c in sided_stop (in_loop k).loop.inv k.before.unit-at.ensures k.unit-at2.ensures c.if1.true
+returns : tie.Need-returns-then-p-q invariant-loop-i decreases-loop-i
+returns c = let k = units_of c in sided_stop (in_loop k).loop-i.invariant k.unit_at-p.ensures k.unit_at-q.ensures c.if-p-q.true
 
-add_i : tie.Need-overflow-add-i invariant_loop decreases_loop
-add_i c = let k = further c.before in omega (arith, (sided_more (in_loop k).loop.inv k.before.unit-at.ensures k.unit-at2.ensures c.before.if1.false).1.inside_one)
+add_i : tie.Need-overflow_add-i invariant-loop-i decreases-loop-i
+add_i c = let k = further c.before in omega (arith, (sided_more (in_loop k).loop-i.invariant k.unit_at-p.ensures k.unit_at-q.ensures c.if-p-q.false).1.inside_one)
 
-add_j : tie.Need-overflow-add-j invariant_loop decreases_loop
+add_j : tie.Need-overflow_add-j invariant-loop-i decreases-loop-i
 add_j c =
     let e = c.before.before in
     let k = further e in
     omega
-    (arith, (in_loop k).before.before.before.good.1.1.0, (sided_more (in_loop k).loop.inv k.before.unit-at.ensures k.unit-at2.ensures e.if1.false).1.inside_other)
+    (arith, (in_loop k).well_formed.1.1.0, (sided_more (in_loop k).loop-i.invariant k.unit_at-p.ensures k.unit_at-q.ensures e.if-p-q.false).1.inside_other)
 
-loop_less : tie.Need-loop-smaller invariant_loop decreases_loop
+loop_less : tie.Need-loop-i-smaller invariant-loop-i decreases-loop-i
 loop_less c =
     let e = c.before.before in
     let k = further e in
-    let more = sided_more (in_loop k).loop.inv k.before.unit-at.ensures k.unit-at2.ensures e.if1.false in
+    let more = sided_more (in_loop k).loop-i.invariant k.unit_at-p.ensures k.unit_at-q.ensures e.if-p-q.false in
     omega (arith, more.0, more.1.inside_one)
 
-loop_again : tie.Need-loop-preserved invariant_loop decreases_loop
+loop_again : tie.Need-loop-i-preserved invariant-loop-i decreases-loop-i
 loop_again c =
     let e = c.before.before in
     let k = further e in
-    (sided_more (in_loop k).loop.inv k.before.unit-at.ensures k.unit-at2.ensures e.if1.false).1
+    (sided_more (in_loop k).loop-i.invariant k.unit_at-p.ensures k.unit_at-q.ensures e.if-p-q.false).1
 
-returns_2 : tie.Need-returns-2 invariant_loop decreases_loop
-returns_2 c = sided_end c.before.loop.invariant c.loop-test.false
+returns_2 : tie.Need-returns invariant-loop-i decreases-loop-i
+returns_2 c = sided_end c.loop-i.invariant c.loop-i-test.false
 
 pub read_alike_spec : {M : Type 1} → statement M
 read_alike_spec =
     tie.close
     (tie.spec
-    invariant_loop
-    decreases_loop
+    invariant-loop-i
+    decreases-loop-i
     loop_holds
     unit_at_requires
     unit_at_requires_2

@@ -13,87 +13,87 @@ use Rattle.escapes.proofs.read_text.Statement.{statement}
 use Rattle.escapes.proofs.read_text.Tie as tie
 
 -- what the proofs look back to
-abbrev start_of : tie.After-look-through → tie.Start
+abbrev start_of : tie.After-look_through → tie.Start
 start_of c = c.before.before.before.before
 
-abbrev looked_before_refusal : tie.After-refuse2 → tie.After-look-through
-looked_before_refusal c = c.before.before.before.before
+abbrev looked_before_refusal : tie.After-refuse-in-Bad → tie.After-look_through
+looked_before_refusal c = c.before.before
 
-abbrev looked_before_room : tie.After-room-for → tie.After-look-through
-looked_before_room c = c.before.before.before.before
+abbrev looked_before_room : tie.After-room_for-answer → tie.After-look_through
+looked_before_room c = c.before.before
 
-abbrev room_asked : tie.After-slice-known2 → tie.After-room-for
+abbrev room_asked : tie.After-slice_known-in-Fine-1 → tie.After-room_for-answer
 room_asked c = c.before.before.before.before.before.before
 
 -- what a place sees
-abbrev value_of_place : tie.After-look-through → List ℕ
+abbrev value_of_place : tie.After-look_through → List ℕ
 value_of_place c = (start_of c).args.value.now
 
-abbrev old_of : tie.After-look-through → List ℕ
+abbrev old_of : tie.After-look_through → List ℕ
 old_of c = (start_of c).args.out.now
 
 -- the text fits, or asks for room
-answered : (c : tie.After-room-for) → let l = looked_before_room c in c.room_for.result ≡ text_answer (start_of l).args.mode (value_of_place l) (length (old_of l))
+answered : (c : tie.After-room_for-answer) → let l = looked_before_room c in c.room_for-answer.result ≡ text_answer (start_of l).args.mode (value_of_place l) (length (old_of l))
 answered c =
     let l = looked_before_room c in
-    c.room_for.ensures
-    ∙ fits (start_of l).args.mode (value_of_place l) (length (old_of l)) l.before.if1.left (sym l.look-through.ensures ∙ c.before.before.needed.given.1)
+    c.room_for-answer.ensures
+    ∙ fits (start_of l).args.mode (value_of_place l) (length (old_of l)) l.if-value-gt-LONGEST.false (sym l.look_through.ensures ∙ c.in-Fine.is)
 
 -- the text is as long as was found
-found : (c : tie.After-room-for) → c.before.before.needed.given.0.0 ≡ length (text_of (value_of_place (looked_before_room c)))
+found : (c : tie.After-room_for-answer) → c.in-Fine.needed ≡ length (text_of (value_of_place (looked_before_room c)))
 found c =
     let l = looked_before_room c in
-    found_length (start_of l).args.mode (value_of_place l) (sym l.look-through.ensures ∙ c.before.before.needed.given.1)
+    found_length (start_of l).args.mode (value_of_place l) (sym l.look_through.ensures ∙ c.in-Fine.is)
 
 refuse_requires : tie.Need-refuse-requires
 refuse_requires c κs = search rules
 
-returns : tie.Need-returns
+returns : tie.Need-returns-then-value-gt-LONGEST
 returns c =
-    let a = c.before.before.before.before.args in
-    kept (c.refuse.ensures ∙ when_too_long a.mode a.value.now (length a.out.now) c.before.if1.true) (text_of a.value.now) a.out.now
+    let a = c.args in
+    kept (c.refuse.ensures ∙ when_too_long a.mode a.value.now (length a.out.now) c.if-value-gt-LONGEST.true) (text_of a.value.now) a.out.now
     (rw c.refuse.ensures (λ e. omega arith))
 
-look_through_requires : tie.Need-look-through-requires
-look_through_requires c κs = c.if1.false
+look_through_requires : tie.Need-look_through-requires
+look_through_requires c κs = c.if-value-gt-LONGEST.false
 
-enum_known_place : tie.Need-enum-known-place
+enum_known_place : tie.Need-enum_known-place
 enum_known_place c = search rules
 
-refuse_requires_2 : tie.Need-refuse-requires-2
+refuse_requires_2 : tie.Need-refuse-requires-in-Bad
 refuse_requires_2 c κs = search rules
 
-enum_known_needed : tie.Need-enum-known-needed
+enum_known_needed : tie.Need-enum_known-needed
 enum_known_needed c = search rules
 
-room_for_requires : tie.Need-room-for-requires
+room_for_requires : tie.Need-room_for-answer-requires
 room_for_requires c κs = search rules
 
-returns_2 : tie.Need-returns-2
-returns_2 c = let r = c.before.before in let l = looked_before_room r in kept (answered r) (text_of (value_of_place l)) (old_of l) c.if2.true
+returns_2 : tie.Need-returns-then-answer-ne-DONE
+returns_2 c = let r = c.before.before in let l = looked_before_room r in kept (answered r) (text_of (value_of_place l)) (old_of l) c.if-answer-ne-DONE.true
 
-lay_text_requires : tie.Need-lay-text-requires
+lay_text_requires : tie.Need-lay_text-requires
 lay_text_requires c κs =
     let r = c.before.before.before in
     let l = looked_before_room r in
-    (l.before.if1.left, found r, room_there r.before.before.needed.given.0.0 (length (old_of l)) r.room_for.ensures c.before.if2.false)
+    (l.if-value-gt-LONGEST.false, found r, room_there r.in-Fine.needed (length (old_of l)) r.room_for-answer.ensures c.if-answer-ne-DONE.false)
 
-returns_3 : tie.Need-returns-3
+returns_3 : tie.Need-returns-in-Bad
 returns_3 c =
     let l = looked_before_refusal c in
     kept
-    (c.refuse2.ensures
-    ∙ bad (start_of l).args.mode (value_of_place l) (length (old_of l)) l.before.if1.left (sym l.look-through.ensures ∙ c.before.before.place.given.1))
-    (text_of (value_of_place l)) (old_of l) (rw c.refuse2.ensures (λ e. omega arith))
+    (c.refuse-in-Bad.ensures
+    ∙ bad (start_of l).args.mode (value_of_place l) (length (old_of l)) l.if-value-gt-LONGEST.false (sym l.look_through.ensures ∙ c.in-Bad.is))
+    (text_of (value_of_place l)) (old_of l) (rw c.refuse-in-Bad.ensures (λ e. omega arith))
 
-same_length : tie.Need-same-length
+same_length : tie.Need-shape_of-out
 same_length c = search rules
 
-returns_4 : tie.Need-returns-4
+returns_4 : tie.Need-returns-else-answer-ne-DONE
 returns_4 c =
     let r = room_asked c in
     let l = looked_before_room r in
-    written (answered r) (text_of (value_of_place l)) (old_of l) c.before.before.before.before.if2.false c.before.before.lay-text.ensures
+    written (answered r) (text_of (value_of_place l)) (old_of l) c.if-answer-ne-DONE.false c.lay_text.ensures
 
 pub read_text_spec : {M : Type 1} → statement M
 read_text_spec =

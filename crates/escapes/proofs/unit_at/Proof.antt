@@ -14,40 +14,40 @@ use Rattle.escapes.proofs.unit_at.Tie as tie
 abbrev start_of : tie.After-begins → tie.Start
 start_of c = c.before.before.before.before
 
-good : (c : tie.Else2) → let a = (start_of c.before).args in escapable a.mode (get_or a.value.now (a.at + 1) 0) ≡ true
-good c = sym c.before.begins.ensures ∙ not-false c.before.begins.result c.if2.false
+good : (c : tie.Else-not-begins) → let a = (start_of c.before).args in escapable a.mode (get_or a.value.now (a.at + 1) 0) ≡ true
+good c = sym c.begins.ensures ∙ not-false c.begins.result c.if-not-begins.false-raw
 
-shared_slice_read_byte : tie.Need-shared-slice-read-byte
+shared_slice_read_byte : tie.Need-bounds-value-at
 shared_slice_read_byte c = search rules
 
-returns : tie.Need-returns
-returns c = let a = c.before.before.before.args in unit_plain a.mode a.value.now a.at c.before.before.before.requires c.if1.true
+returns : tie.Need-returns-then-byte-ne92
+returns c = let a = c.args in unit_plain a.mode a.value.now a.at c.requires c.if-byte-ne92.true
 
-add_next : tie.Need-overflow-add-next
+add_next : tie.Need-overflow_add-next
 add_next c = search rules
 
 begins_requires : tie.Need-begins-requires
 begins_requires c κs = search rules
 
-returns_2 : tie.Need-returns-2
+returns_2 : tie.Need-returns-then-not-begins
 returns_2 c =
     let s = start_of c.before in
     let a = s.args in
-    unit_bad a.mode a.value.now a.at s.pre c.before.before.if1.false (sym c.before.begins.ensures ∙ not-true c.before.begins.result c.if2.true)
+    unit_bad a.mode a.value.now a.at s.requires c.if-byte-ne92.false (sym c.begins.ensures ∙ not-true c.begins.result c.if-not-begins.true-raw)
     (get_or a.value.now a.at 0)
 
-shared_slice_read_meant : tie.Need-shared-slice-read-meant
+shared_slice_read_meant : tie.Need-bounds-value-next
 shared_slice_read_meant c = let a = (start_of c.before.before).args in one_behind a.mode a.value.now (a.at + 1) (good c.before)
 
 meant_requires : tie.Need-meant-requires
 meant_requires c κs = search rules
 
-returns_3 : tie.Need-returns-3
+returns_3 : tie.Need-returns
 returns_3 c =
     let k = c.before.before in
     let s = start_of k.before in
     let a = s.args in
-    rw c.meant.ensures (unit_escape a.mode a.value.now a.at s.pre k.before.before.if1.false (good k))
+    rw c.meant.ensures (unit_escape a.mode a.value.now a.at s.requires k.if-byte-ne92.false (good k))
 
 pub unit_at_spec : {M : Type 1} → statement M
 unit_at_spec =

@@ -9,71 +9,71 @@ use Rattle.escapes.proofs.Writing.{value_length, value_none, part_length}
 use Rattle.escapes.proofs.value_length.Statement.{statement}
 use Rattle.escapes.proofs.value_length.Tie as tie
 
-abbrev invariant_loop : tie.invariant-loop
-invariant_loop text n₀ i₀ n i = (i ≤ length text) × (n + length (as_value (drop i text)) ≡ length (as_value text))
+abbrev invariant-loop-i : tie.invariant-loop-i
+invariant-loop-i text n₀ i₀ n i = (i ≤ length text) × (n + length (as_value (drop i text)) ≡ length (as_value text))
 
-abbrev decreases_loop : tie.decreases-loop
-decreases_loop text n₀ i₀ n i = length text - i
+abbrev decreases-loop-i : tie.decreases-loop-i
+decreases-loop-i text n₀ i₀ n i = length text - i
 
-abbrev At : (tie.invariant-loop → tie.decreases-loop → Type 0) → Type 0
-At place = place invariant_loop decreases_loop
+abbrev At : (tie.invariant-loop-i → tie.decreases-loop-i → Type 0) → Type 0
+At place = place invariant-loop-i decreases-loop-i
 
 -- what the proofs look back to
-abbrev in_loop : At tie.After-block-length → At tie.At-loop
+abbrev in_loop : At tie.After-block_length-n → At tie.At-loop-i
 in_loop c = c.before.before.before.before
 
-abbrev text_of : At tie.After-block-length → List ℕ
-text_of c = (in_loop c).before.before.args.text.now
+abbrev text_of : At tie.After-block_length-n → List ℕ
+text_of c = (in_loop c).args.text.now
 
-abbrev end_of : At tie.After-block-length → ℕ
-end_of c = (in_loop c).loop.i + c.before.before.least.result
+abbrev end_of : At tie.After-block_length-n → ℕ
+end_of c = (in_loop c).loop-i.i + c.least.result
 
 -- the block is counted
-turn : (c : At tie.After-block-length) → (in_loop c).loop.n + c.block-length.result + length (as_value (drop (end_of c) (text_of c))) ≡ length (as_value (text_of c))
-turn c = omega (arith, c.block-length.ensures, part_length (text_of c) (in_loop c).loop.i (end_of c) (omega arith), (in_loop c).loop.invariant.1)
+turn : (c : At tie.After-block_length-n) → (in_loop c).loop-i.n + c.block_length-n.result + length (as_value (drop (end_of c) (text_of c))) ≡ length (as_value (text_of c))
+turn c = omega (arith, c.block_length-n.ensures, part_length (text_of c) (in_loop c).loop-i.i (end_of c) (omega arith), (in_loop c).loop-i.invariant.1)
 
-loop_holds : tie.Need-loop-init invariant_loop decreases_loop
+loop_holds : tie.Need-loop-i-init invariant-loop-i decreases-loop-i
 loop_holds c = (omega arith, omega arith)
 
-sub_least : tie.Need-overflow-sub-least invariant_loop decreases_loop
+sub_least : tie.Need-overflow_sub-text invariant-loop-i decreases-loop-i
 sub_least c = omega arith
 
-least_requires : tie.Need-least-requires invariant_loop decreases_loop
+least_requires : tie.Need-least-requires invariant-loop-i decreases-loop-i
 least_requires c κs = tt
 
-add_end : tie.Need-overflow-add-end invariant_loop decreases_loop
+add_end : tie.Need-overflow_add-end invariant-loop-i decreases-loop-i
 add_end c = omega (arith, c.least.ensures)
 
-sub_block_length : tie.Need-overflow-sub-block-length invariant_loop decreases_loop
+sub_block_length : tie.Need-slice_bounds-block_length-count invariant-loop-i decreases-loop-i
 sub_block_length c = omega arith
 
-part_block_length_start : tie.Need-slice-bounds-block-length-start invariant_loop decreases_loop
+part_block_length_start : tie.Need-slice_bounds-block_length-start invariant-loop-i decreases-loop-i
 part_block_length_start c = omega arith
 
-part_block_length_end : tie.Need-slice-bounds-block-length-end invariant_loop decreases_loop
+part_block_length_end : tie.Need-slice_bounds-block_length-end invariant-loop-i decreases-loop-i
 part_block_length_end c = omega (arith, c.least.ensures)
 
-block_length_requires : tie.Need-block-length-requires invariant_loop decreases_loop
-block_length_requires c κs = rw length-take (omega (arith, c.before.least.ensures))
+block_length_requires : tie.Need-block_length-n-requires invariant-loop-i decreases-loop-i
+block_length_requires c κs = rw length-take (omega (arith, c.least.ensures))
 
-add_n : tie.Need-overflow-add-n invariant_loop decreases_loop
+add_n : tie.Need-overflow_add-n invariant-loop-i decreases-loop-i
 add_n c = omega (arith, turn c, value_length (text_of c))
 
-loop_less : tie.Need-loop-smaller invariant_loop decreases_loop
-loop_less c = omega (arith, c.before.before.least.ensures)
+loop_less : tie.Need-loop-i-smaller invariant-loop-i decreases-loop-i
+loop_less c = omega (arith, c.least.ensures)
 
-loop_again : tie.Need-loop-preserved invariant_loop decreases_loop
-loop_again c = (omega (arith, c.before.before.least.ensures), turn c)
+loop_again : tie.Need-loop-i-preserved invariant-loop-i decreases-loop-i
+loop_again c = (omega (arith, c.least.ensures), turn c)
 
-returns : tie.Need-returns invariant_loop decreases_loop
-returns c = omega (arith, ap length (value_none c.before.before.before.args.text.now c.before.loop.i c.loop-test.false))
+returns : tie.Need-returns invariant-loop-i decreases-loop-i
+returns c = omega (arith, ap length (value_none c.args.text.now c.loop-i.i c.loop-i-test.false))
 
 pub value_length_spec : {M : Type 1} → statement M
 value_length_spec =
     tie.close
     (tie.spec
-    invariant_loop
-    decreases_loop
+    invariant-loop-i
+    decreases-loop-i
     loop_holds
     sub_least
     least_requires

@@ -7,31 +7,31 @@ use Rattle.folding.specs.Answers.{foldable}
 use Rattle.folding.proofs.all_foldable.Statement.{statement}
 use Rattle.folding.proofs.all_foldable.Tie as tie
 
-abbrev invariant_loop : tie.invariant-loop
-invariant_loop line fine₀ i₀ fine i = Tried foldable line fine i
+abbrev invariant-loop-i : tie.invariant-loop-i
+invariant-loop-i line fine₀ i₀ fine i = Tried foldable line fine i
 
-abbrev decreases_loop : tie.decreases-loop
-decreases_loop line fine₀ i₀ fine i = length line - i
+abbrev decreases-loop-i : tie.decreases-loop-i
+decreases-loop-i line fine₀ i₀ fine i = length line - i
 
-loop_holds : tie.Need-loop-init invariant_loop decreases_loop
+loop_holds : tie.Need-loop-i-init invariant-loop-i decreases-loop-i
 loop_holds c = tried_start foldable _
 
-shared_slice_read_b : tie.Need-shared-slice-read-b invariant_loop decreases_loop
+shared_slice_read_b : tie.Need-bounds-line-i invariant-loop-i decreases-loop-i
 shared_slice_read_b c = omega arith
 
-add_i : tie.Need-overflow-add-i invariant_loop decreases_loop
+add_i : tie.Need-overflow_add-i invariant-loop-i decreases-loop-i
 add_i c = omega arith
 
-loop_less : tie.Need-loop-smaller invariant_loop decreases_loop
+loop_less : tie.Need-loop-i-smaller invariant-loop-i decreases-loop-i
 loop_less c = omega arith
 
-loop_again : tie.Need-loop-preserved invariant_loop decreases_loop
-loop_again c = tried_more c.before.before.loop.invariant c.before.loop-test.true
+loop_again : tie.Need-loop-i-preserved invariant-loop-i decreases-loop-i
+loop_again c = tried_more c.loop-i.invariant c.loop-i-test.true
 
-returns : tie.Need-returns invariant_loop decreases_loop
-returns c = tried_all c.before.loop.invariant c.loop-test.false
+returns : tie.Need-returns invariant-loop-i decreases-loop-i
+returns c = tried_all c.loop-i.invariant c.loop-i-test.false
 
 pub all_foldable_spec : {M : Type 1} → statement M
 all_foldable_spec =
     tie.close
-    (tie.spec invariant_loop decreases_loop loop_holds shared_slice_read_b add_i loop_less loop_again returns)
+    (tie.spec invariant-loop-i decreases-loop-i loop_holds shared_slice_read_b add_i loop_less loop_again returns)

@@ -8,39 +8,39 @@ use Rattle.octets.specs.Bytes.{ascii}
 use Rattle.folding.proofs.ascii_run.Statement.{statement}
 use Rattle.folding.proofs.ascii_run.Tie as tie
 
-abbrev invariant_loop : tie.invariant-loop
-invariant_loop line i₀ i = Ran ascii line i
+abbrev invariant-loop-i : tie.invariant-loop-i
+invariant-loop-i line i₀ i = Ran ascii line i
 
-abbrev decreases_loop : tie.decreases-loop
-decreases_loop line i₀ i = length line - i
+abbrev decreases-loop-i : tie.decreases-loop-i
+decreases-loop-i line i₀ i = length line - i
 
-loop_holds : tie.Need-loop-init invariant_loop decreases_loop
+loop_holds : tie.Need-loop-i-init invariant-loop-i decreases-loop-i
 loop_holds c = ran_start ascii _
 
-shared_slice_read_if1 : tie.Need-shared-slice-read-if1 invariant_loop decreases_loop
+shared_slice_read_if1 : tie.Need-bounds-line-i invariant-loop-i decreases-loop-i
 shared_slice_read_if1 c = omega arith
 
-returns : tie.Need-returns invariant_loop decreases_loop
-returns c = ran_end c.before.before.before.loop.invariant c.before.before.loop-test.true (lt-leb _ _ c.if1.true)
+returns : tie.Need-returns-then-line-i-gt127 invariant-loop-i decreases-loop-i
+returns c = ran_end c.loop-i.invariant c.loop-i-test.true (lt-leb _ _ c.if-line-i-gt127.true)
 
-add_i : tie.Need-overflow-add-i invariant_loop decreases_loop
+add_i : tie.Need-overflow_add-i invariant-loop-i decreases-loop-i
 add_i c = omega arith
 
-loop_less : tie.Need-loop-smaller invariant_loop decreases_loop
+loop_less : tie.Need-loop-i-smaller invariant-loop-i decreases-loop-i
 loop_less c = omega arith
 
-loop_again : tie.Need-loop-preserved invariant_loop decreases_loop
-loop_again c = ran_more c.before.before.before.loop.invariant c.before.before.loop-test.true (le-leb _ _ c.if1.false)
+loop_again : tie.Need-loop-i-preserved invariant-loop-i decreases-loop-i
+loop_again c = ran_more c.loop-i.invariant c.loop-i-test.true (le-leb _ _ c.if-line-i-gt127.false)
 
-returns_2 : tie.Need-returns-2 invariant_loop decreases_loop
-returns_2 c = ran_all c.before.loop.invariant c.loop-test.false
+returns_2 : tie.Need-returns invariant-loop-i decreases-loop-i
+returns_2 c = ran_all c.loop-i.invariant c.loop-i-test.false
 
 pub ascii_run_spec : {M : Type 1} → statement M
 ascii_run_spec =
     tie.close
     (tie.spec
-    invariant_loop
-    decreases_loop
+    invariant-loop-i
+    decreases-loop-i
     loop_holds
     shared_slice_read_if1
     returns

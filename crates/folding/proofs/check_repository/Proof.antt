@@ -12,35 +12,35 @@ use Rattle.folding.proofs.check_repository.Tie as tie
 refuse_requires : tie.Need-refuse-requires
 refuse_requires c κs = search rules
 
-returns : tie.Need-returns
+returns : tie.Need-returns-then-line-gt-LONGEST
 returns c =
-    let line = c.before.before.before.args.line.now in
-    c.refuse.ensures ∙ when_too_long not_ascii (run ascii line) line c.before.if1.true
+    let line = c.args.line.now in
+    c.refuse.ensures ∙ when_too_long not_ascii (run ascii line) line c.if-line-gt-LONGEST.true
 
-all_foldable_requires : tie.Need-all-foldable-requires
+all_foldable_requires : tie.Need-all_foldable-requires
 all_foldable_requires c κs = search rules
 
-refuse_requires_2 : tie.Need-refuse-requires-2
+refuse_requires_2 : tie.Need-refuse-requires-then-all_foldable
 refuse_requires_2 c κs = search rules
 
-returns_2 : tie.Need-returns-2
+returns_2 : tie.Need-returns-then-all_foldable
 returns_2 c =
-    let a = c.before.before in
-    let line = a.before.before.before.args.line.now in
-    let f = foldable_is line (sym a.all-foldable.ensures ∙ c.before.if2.true) in
-    c.refuse2.ensures ∙ nothing_wrong not_ascii (run ascii line) line a.before.if1.false f.0 (leb-true _ _ f.1)
+    let a = c in
+    let line = a.args.line.now in
+    let f = foldable_is line (sym a.all_foldable.ensures ∙ c.if-all_foldable.true) in
+    c.refuse-then-all_foldable.ensures ∙ nothing_wrong not_ascii (run ascii line) line a.if-line-gt-LONGEST.false f.0 (leb-true _ _ f.1)
 
-ascii_run_requires : tie.Need-ascii-run-requires
+ascii_run_requires : tie.Need-ascii_run-requires
 ascii_run_requires c κs = search rules
 
-check_bytes_requires : tie.Need-check-bytes-requires
+check_bytes_requires : tie.Need-check_bytes-requires
 check_bytes_requires c κs = search rules
 
-returns_3 : tie.Need-returns-3
+returns_3 : tie.Need-returns
 returns_3 c =
-    let s = c.before.before.before.before in
-    let line = s.before.before.args.line.now in
-    c.check-bytes.ensures ∙ rw c.before.ascii_run.ensures (by_bytes not_ascii (run ascii line) line s.if1.false)
+    let s = c in
+    let line = s.args.line.now in
+    c.check_bytes.ensures ∙ rw c.ascii_run.ensures (by_bytes not_ascii (run ascii line) line s.if-line-gt-LONGEST.false)
 
 pub check_repository_spec : {M : Type 1} → statement M
 check_repository_spec =

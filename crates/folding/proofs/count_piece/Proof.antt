@@ -7,91 +7,91 @@ use Rattle.folding.proofs.Strict.{ahead, fewer, same, Folding, begin, longer, wi
 use Rattle.folding.proofs.count_piece.Statement.{statement}
 use Rattle.folding.proofs.count_piece.Tie as tie
 
-abbrev invariant_loop : tie.invariant-loop
-invariant_loop piece left₀ at₀ n₀ left at n = Folding [] [] piece left₀ left at n
+abbrev invariant-loop-left : tie.invariant-loop-left
+invariant-loop-left piece left₀ at₀ n₀ left at n = Folding [] [] piece left₀ left at n
 
-abbrev decreases_loop : tie.decreases-loop
-decreases_loop piece left₀ at₀ n₀ left at n = ahead (length piece) at left
+abbrev decreases-loop-left : tie.decreases-loop-left
+decreases-loop-left piece left₀ at₀ n₀ left at n = ahead (length piece) at left
 
-abbrev At : (tie.invariant-loop → tie.decreases-loop → Type 0) → Type 0
-At place = place invariant_loop decreases_loop
+abbrev At : (tie.invariant-loop-left → tie.decreases-loop-left → Type 0) → Type 0
+At place = place invariant-loop-left decreases-loop-left
 
 -- what the proofs look back to
-abbrev in_loop : At tie.After-start-within → At tie.In-loop
+abbrev in_loop : At tie.After-start_within-taken → At tie.In-loop-left
 in_loop c = c.before.before
 
-abbrev after_start : At tie.After-count-on2 → At tie.After-start-within
+abbrev after_start : At tie.After-count_on-length → At tie.After-start_within-taken
 after_start c = c.before.before
 
-loop_holds : tie.Need-loop-init invariant_loop decreases_loop
-loop_holds c = begin [] c.before.args.piece.now c.before.args.column.left
+loop_holds : tie.Need-loop-left-init invariant-loop-left decreases-loop-left
+loop_holds c = begin [] c.args.piece.now c.args.column.left
 
-sub_loop : tie.Need-overflow-sub-loop invariant_loop decreases_loop
+sub_loop : tie.Need-overflow_sub-piece invariant-loop-left decreases-loop-left
 sub_loop c = omega arith
 
-sub_start_within : tie.Need-overflow-sub-start-within invariant_loop decreases_loop
+sub_start_within : tie.Need-slice_bounds-start_within-count invariant-loop-left decreases-loop-left
 sub_start_within c = omega arith
 
-part_start_within_start : tie.Need-slice-bounds-start-within-start invariant_loop decreases_loop
+part_start_within_start : tie.Need-slice_bounds-start_within-start invariant-loop-left decreases-loop-left
 part_start_within_start c = omega arith
 
-part_start_within_end : tie.Need-slice-bounds-start-within-end invariant_loop decreases_loop
+part_start_within_end : tie.Need-slice_bounds-start_within-end invariant-loop-left decreases-loop-left
 part_start_within_end c = omega arith
 
-start_within_requires : tie.Need-start-within-requires invariant_loop decreases_loop
-start_within_requires c κs = longer c.before.before.loop.invariant c.before.loop-test.true
+start_within_requires : tie.Need-start_within-taken-requires invariant-loop-left decreases-loop-left
+start_within_requires c κs = longer c.loop-left.invariant c.loop-left-test.true
 
-count_on_requires : tie.Need-count-on-requires invariant_loop decreases_loop
+count_on_requires : tie.Need-count_on-requires invariant-loop-left decreases-loop-left
 count_on_requires c κs = tt
 
-count_on_requires_2 : tie.Need-count-on-requires-2 invariant_loop decreases_loop
+count_on_requires_2 : tie.Need-count_on-length-requires invariant-loop-left decreases-loop-left
 count_on_requires_2 c κs = tt
 
-add_at : tie.Need-overflow-add-at invariant_loop decreases_loop
+add_at : tie.Need-overflow_add-at invariant-loop-left decreases-loop-left
 add_at c =
     let s = after_start c in
-    omega (arith, (in_loop s).loop-test.taken, within_line (in_loop s).before.loop.inv s.start-within.ensures)
+    omega (arith, (in_loop s).loop-left-test.true, within_line (in_loop s).loop-left.invariant s.start_within-taken.ensures)
 
-loop_less : tie.Need-loop-smaller invariant_loop decreases_loop
+loop_less : tie.Need-loop-left-smaller invariant-loop-left decreases-loop-left
 loop_less c =
     let s = after_start c in
-    let t = (in_loop s).loop-test.taken in
-    let i = (in_loop s).before.loop.inv in
-    let e = s.start-within.ensures in
+    let t = (in_loop s).loop-left-test.true in
+    let i = (in_loop s).loop-left.invariant in
+    let e = s.start_within-taken.ensures in
     fewer _ _ _ _ t (within_line i e) (moves i e t)
 
-loop_again : tie.Need-loop-preserved invariant_loop decreases_loop
+loop_again : tie.Need-loop-left-preserved invariant-loop-left decreases-loop-left
 loop_again c =
     let s = after_start c in
-    count_turn (in_loop s).before.loop.inv s.start-within.ensures (in_loop s).loop-test.taken c.before.count_on.ensures c.count-on2.ensures
+    count_turn (in_loop s).loop-left.invariant s.start_within-taken.ensures (in_loop s).loop-left-test.true c.count_on.ensures c.count_on-length.ensures
 
-sub_new : tie.Need-overflow-sub-new invariant_loop decreases_loop
+sub_new : tie.Need-overflow_sub-piece-2 invariant-loop-left decreases-loop-left
 sub_new c = omega arith
 
-sub_new_2 : tie.Need-overflow-sub-new-2 invariant_loop decreases_loop
+sub_new_2 : tie.Need-overflow_sub-left invariant-loop-left decreases-loop-left
 sub_new_2 c = omega arith
 
-new_requires : tie.Need-new-requires invariant_loop decreases_loop
+new_requires : tie.Need-new-requires invariant-loop-left decreases-loop-left
 new_requires c κs = tt
 
-sub_count_on : tie.Need-overflow-sub-count-on invariant_loop decreases_loop
+sub_count_on : tie.Need-overflow_sub-piece-3 invariant-loop-left decreases-loop-left
 sub_count_on c = omega arith
 
-count_on_requires_3 : tie.Need-count-on-requires-3 invariant_loop decreases_loop
+count_on_requires_3 : tie.Need-count_on-requires-2 invariant-loop-left decreases-loop-left
 count_on_requires_3 c κs = tt
 
-returns : tie.Need-returns invariant_loop decreases_loop
+returns : tie.Need-returns invariant-loop-left decreases-loop-left
 returns c =
-    let n = c.before in
-    let e = count_finish n.before.before.loop.invariant n.before.loop-test.false c.count-on3.ensures in
+    let n = c in
+    let e = count_finish n.loop-left.invariant n.loop-left-test.false c.count_on-2.ensures in
     same (n.new.ensures ∙ e.0) e.1
 
 pub count_piece_spec : {M : Type 1} → statement M
 count_piece_spec =
     tie.close
     (tie.spec
-    invariant_loop
-    decreases_loop
+    invariant-loop-left
+    decreases-loop-left
     loop_holds
     sub_loop
     sub_start_within

@@ -14,63 +14,63 @@ use Rattle.folding.proofs.fold_line.Statement.{statement}
 use Rattle.folding.proofs.fold_line.Tie as tie
 
 -- what the proofs look back to
-abbrev start_of_refusal : tie.Then1 → tie.Start
+abbrev start_of_refusal : tie.Then-checked-ne-DONE → tie.Start
 start_of_refusal c = c.before.before.before.before.before
 
-abbrev at_start : tie.Else1 → tie.Start
+abbrev at_start : tie.Else-checked-ne-DONE → tie.Start
 at_start c = c.before.before.before.before.before
 
-abbrev fine : tie.Then2 → tie.Else1
+abbrev fine : tie.Then-answer-ne-DONE → tie.Else-checked-ne-DONE
 fine c = c.before.before.before.before.before.before
 
-abbrev after_room_for : tie.After-slice-known2 → tie.After-room-for
+abbrev after_room_for : tie.After-slice_known-2-1 → tie.After-room_for-answer
 after_room_for c = c.before.before.before.before.before.before
 
-abbrev after_fold_repository : tie.After-slice-known2 → tie.After-fold-repository
+abbrev after_fold_repository : tie.After-slice_known-2-1 → tie.After-fold_repository-needed
 after_fold_repository c = (after_room_for c).before.before
 
-check_repository_requires : tie.Need-check-repository-requires
+check_repository_requires : tie.Need-check_repository-checked-requires
 check_repository_requires c κs = search rules
 
-returns : tie.Need-returns
+returns : tie.Need-returns-then-checked-ne-DONE
 returns c =
     let a = (start_of_refusal c).args in
     let line = a.line.now in
     let old = a.out.now in
-    kept (refused repository_line repository line (length old) c.before.before.check-repository.ensures c.if1.true) (repository line) old c.if1.true
+    kept (refused repository_line repository line (length old) c.check_repository-checked.ensures c.if-checked-ne-DONE.true) (repository line) old c.if-checked-ne-DONE.true
 
-slice_aggregate_fold_repository : tie.Need-slice-aggregate-fold-repository
+slice_aggregate_fold_repository : tie.Need-slice_bounds-fold_repository-end
 slice_aggregate_fold_repository c = search rules
 
-fold_repository_requires : tie.Need-fold-repository-requires
+fold_repository_requires : tie.Need-fold_repository-needed-requires
 fold_repository_requires c κs = search rules
 
-room_for_requires : tie.Need-room-for-requires
+room_for_requires : tie.Need-room_for-answer-requires
 room_for_requires c κs = search rules
 
-returns_2 : tie.Need-returns-2
+returns_2 : tie.Need-returns-then-answer-ne-DONE
 returns_2 c =
     let s = fine c in
     let line = (at_start s).args.line.now in
     let old = (at_start s).args.out.now in
-    kept (folded repository_line repository line (length old) s.before.before.check-repository.ensures (short_enough not_ascii (run ascii line) line) s.if1.left (repository_length line)
-    (from_front c.before.before.before.before.fold-repository.ensures) c.before.before.room_for.ensures)
-    (repository line) old c.if2.true
+    kept (folded repository_line repository line (length old) s.check_repository-checked.ensures (short_enough not_ascii (run ascii line) line) s.if-checked-ne-DONE.false (repository_length line)
+    (from_front c.fold_repository-needed.ensures) c.room_for-answer.ensures)
+    (repository line) old c.if-answer-ne-DONE.true
 
-fold_repository_requires_2 : tie.Need-fold-repository-requires-2
+fold_repository_requires_2 : tie.Need-fold_repository-requires
 fold_repository_requires_2 c κs = search rules
 
-same_length : tie.Need-same-length
+same_length : tie.Need-shape_of-out
 same_length c = search rules
 
-returns_3 : tie.Need-returns-3
+returns_3 : tie.Need-returns
 returns_3 c =
     let s = (after_fold_repository c).before.before in
     let line = (at_start s).args.line.now in
     let old = (at_start s).args.out.now in
-    written (folded repository_line repository line (length old) s.before.before.check-repository.ensures (short_enough not_ascii (run ascii line) line) s.if1.left (repository_length line)
-    (from_front (after_fold_repository c).fold-repository.ensures) (after_room_for c).room_for.ensures)
-    (repository line) old c.before.before.before.before.if2.false c.before.before.fold-repository2.ensures.is
+    written (folded repository_line repository line (length old) s.check_repository-checked.ensures (short_enough not_ascii (run ascii line) line) s.if-checked-ne-DONE.false (repository_length line)
+    (from_front (after_fold_repository c).fold_repository-needed.ensures) (after_room_for c).room_for-answer.ensures)
+    (repository line) old c.if-answer-ne-DONE.false c.fold_repository.ensures.is
 
 pub fold_line_spec : {M : Type 1} → statement M
 fold_line_spec =

@@ -12,66 +12,60 @@ use Rattle.lines.proofs.read_line.Statement.{statement}
 use Rattle.lines.proofs.read_line.Tie as tie
 
 -- what the proofs look back to
-abbrev line_of_begin : tie.Then3 → List ℕ
-line_of_begin c = c.before.before.before.before.before.before.before.args.line.now
+abbrev line_of_begin : tie.Then-starts_word → List ℕ
+line_of_begin c = c.args.line.now
 
-abbrev begin_not_empty : tie.After-begin-line → tie.Else1
-begin_not_empty c = c.before.before.before.before.before.before
+abbrev begin_not_empty : tie.After-begin_line → tie.Else-line-eq0
+begin_not_empty c = c.before.before.before.before.before.before.before
 
-abbrev end_not_empty : tie.Then4 → tie.Else1
-end_not_empty c = c.before.before.before.before.before.before.before.before
+abbrev end_not_empty : tie.Then-starts_word-2 → tie.Else-line-eq0
+end_not_empty c = c.before.before.before.before.before.before.before.before.before.before
 
-abbrev line_of_end : tie.Then4 → List ℕ
-line_of_end c = (end_not_empty c).before.before.args.line.now
+abbrev line_of_end : tie.Then-starts_word-2 → List ℕ
+line_of_end c = (end_not_empty c).args.line.now
 
-abbrev line_of_other : tie.After-property-line → List ℕ
-line_of_other c = c.before.before.before.before.before.args.line.now
+abbrev line_of_other : tie.After-property_line → List ℕ
+line_of_other c = c.args.line.now
 
-returns : tie.Need-returns
-returns c = sym (is_empty c.before.before.args.line.now c.if1.true)
+returns : tie.Need-returns-then-line-eq0
+returns c = sym (is_empty c.args.line.now c.if-line-eq0.true)
 
-may_be_reserved_requires : tie.Need-may-be-reserved-requires
+may_be_reserved_requires : tie.Need-may_be_reserved-requires
 may_be_reserved_requires c κs = search rules
 
-slice_aggregate_starts_word : tie.Need-slice-aggregate-starts-word
-slice_aggregate_starts_word c = search rules
-
-starts_word_requires : tie.Need-starts-word-requires
+starts_word_requires : tie.Need-starts_word-requires
 starts_word_requires c κs = search rules
 
-begin_line_requires : tie.Need-begin-line-requires
-begin_line_requires c κs = starts_length begin_mark (line_of_begin c) (sym c.before.starts-word.ensures ∙ c.if3.true)
+begin_line_requires : tie.Need-begin_line-requires
+begin_line_requires c κs = starts_length begin_mark (line_of_begin c) (sym c.starts_word.ensures ∙ c.if-starts_word.true)
 
-returns_2 : tie.Need-returns-2
+returns_2 : tie.Need-returns-then-starts_word
 returns_2 c = let line = line_of_begin c.before in
-    c.begin_line.ensures ∙ sym (is_begin line (begin_not_empty c).if1.false (sym c.before.before.starts-word.ensures ∙ c.before.if3.true))
+    c.begin_line.ensures ∙ sym (is_begin line (begin_not_empty c).if-line-eq0.false (sym c.starts_word.ensures ∙ c.if-starts_word.true))
 
-slice_aggregate_starts_word_2 : tie.Need-slice-aggregate-starts-word-2
-slice_aggregate_starts_word_2 c = search rules
-
-starts_word_requires_2 : tie.Need-starts-word-requires-2
+starts_word_requires_2 : tie.Need-starts_word-requires-then-may_be_reserved
 starts_word_requires_2 c κs = search rules
 
-sub_t14 : tie.Need-overflow-sub-t14
-sub_t14 c = omega (arith, starts_length end_mark (line_of_end c) (sym c.before.starts-word2.ensures ∙ c.if4.true))
+sub_t14 : tie.Need-overflow_sub-result
+sub_t14 c = omega (arith, starts_length end_mark (line_of_end c) (sym c.starts_word-then-may_be_reserved.ensures ∙ c.if-starts_word-2.true))
 
-returns_3 : tie.Need-returns-3
+returns_3 : tie.Need-returns-then-starts_word-2
 returns_3 c = let line = line_of_end c in
-    sym (is_end line (end_not_empty c).if1.false (sym c.before.before.before.before.starts-word.ensures ∙ c.before.before.before.if3.false)
-    (sym c.before.starts-word2.ensures ∙ c.if4.true))
+    sym (is_end line (end_not_empty c).if-line-eq0.false (sym c.starts_word.ensures ∙ c.if-starts_word.false)
+    (sym c.starts_word-then-may_be_reserved.ensures ∙ c.if-starts_word-2.true))
 
-property_line_requires : tie.Need-property-line-requires
+property_line_requires : tie.Need-property_line-requires
 property_line_requires c κs = search rules
 
-returns_4 : tie.Need-returns-4
+returns_4 : tie.Need-returns
 returns_4 c = let line = line_of_other c in
-    let other = is_other line c.before.before.before.if1.false in
+    let other = is_other line c.if-line-eq0.false in
     c.property_line.ensures
     ∙ sym (⊎_elim
-    (λ w. other (sym w.2.ensures ∙ w.3.left) (sym w.5.ensures ∙ w.6.left))
-    (λ w. let e = sym c.before.before.may-be-reserved.ensures ∙ w.left in
+    (λ w. other (sym w.starts_word.ensures ∙ w.if-starts_word.false) (sym w.starts_word-then-may_be_reserved.ensures ∙ w.if-starts_word-2.false))
+    (λ w. let e = sym c.may_be_reserved.ensures ∙ w.if-may_be_reserved.false in
     other (no_word begin_mark line refl refl e) (no_word end_mark line refl refl e))
-    c.before.if2.branch)
+    c.if-may_be_reserved.branch-raw)
 
 pub read_line_spec : {M : Type 1} → statement M
 read_line_spec =
@@ -79,11 +73,9 @@ read_line_spec =
     (tie.spec
     returns
     may_be_reserved_requires
-    slice_aggregate_starts_word
     starts_word_requires
     begin_line_requires
     returns_2
-    slice_aggregate_starts_word_2
     starts_word_requires_2
     sub_t14
     returns_3

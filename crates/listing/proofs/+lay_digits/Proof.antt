@@ -40,69 +40,69 @@ abbrev Place : (lts.Claims → In 1 kinds.ps → Out 1 kinds.ps kinds.r → Type
 Place R t = R (calls t) (given t) reads.Post
 
 -- what the proofs look back to
-abbrev after_digit_of : (t : ℕ) → Place lts.After-slice-known2 t → Place lts.After-digit-of t
+abbrev after_digit_of : (t : ℕ) → Place lts.After-slice_known-then-n-lt10-1 t → Place lts.After-digit_of t
 after_digit_of t c = c.before.before.before.before.before
 
-abbrev in_else1 : (t : ℕ) → Place lts.After-slice-known2 t → Place lts.Else1 t
+abbrev in_else1 : (t : ℕ) → Place lts.After-slice_known-then-n-lt10-1 t → Place lts.Else-places-eq0 t
 in_else1 t c = (after_digit_of t c).before.before
 
-abbrev after_digit_of2 : (t : ℕ) → Place lts.After-slice-known4 t → Place lts.After-digit-of2 t
+abbrev after_digit_of2 : (t : ℕ) → Place lts.After-slice_known-3-1 t → Place lts.After-digit_of-2 t
 after_digit_of2 t c = c.before.before.before.before.before
 
-abbrev in_else2 : (t : ℕ) → Place lts.After-slice-known4 t → Place lts.Else2 t
+abbrev in_else2 : (t : ℕ) → Place lts.After-slice_known-3-1 t → Place lts.Else-n-lt10 t
 in_else2 t c = (after_digit_of2 t c).before.before.before.before.before
 
-returns : Asks lts.Need-returns
+returns : Asks lts.Need-returns-then-places-eq0
 returns t c =
-    let a = c.before.before.args in
-    from_as (no_digits a.places a.n c.if1.true) (stays a.at a.out.now (omega arith))
+    let a = c.args in
+    from_as (no_digits a.places a.n c.if-places-eq0.true) (stays a.at a.out.now (omega arith))
 
-digit_of_requires : Asks lts.Need-digit-of-requires
+digit_of_requires : Asks lts.Need-digit_of-requires
 digit_of_requires t c κs = search rules
 
-slice_aggregate_lay : Asks lts.Need-slice-aggregate-lay
+slice_aggregate_lay : Asks lts.Need-slice_bounds-lay-end
 slice_aggregate_lay t c = search rules
 
 lay_requires : Asks lts.Need-lay-requires
 lay_requires t c κs = search rules
 
-same_length : Asks lts.Need-same-length
+same_length : Asks lts.Need-shape_of-out-then-n-lt10
 same_length t c = search rules
 
-returns_2 : Asks lts.Need-returns-2
+returns_2 : Asks lts.Need-returns-then-n-lt10
 returns_2 t c =
-    let a = (in_else1 t c).before.before.args in
-    from_as (ap (λ (k : ℕ). k ∷ []) (after_digit_of t c).digit-of.ensures ∙ one_digit a.places a.n (in_else1 t c).if1.false (after_digit_of t c).before.if2.true)
-    c.before.before.lay.ensures
+    let a = (in_else1 t c).args in
+    from_as (ap (λ (k : ℕ). k ∷ []) (after_digit_of t c).digit_of.ensures ∙ one_digit a.places a.n (in_else1 t c).if-places-eq0.false (after_digit_of t c).if-n-lt10.true)
+    c.lay.ensures
 
-sub_lay_digits : Asks lts.Need-overflow-sub-lay-digits
-sub_lay_digits t c = pos_of_ne-zero c.before.if1.false
+sub_lay_digits : Asks lts.Need-overflow_sub-places
+sub_lay_digits t c = pos_of_ne-zero c.if-places-eq0.false
 
-lay_digits_requires : Asks lts.Need-lay-digits-requires
-lay_digits_requires t c κs = (omega (arith, c.before.before.before.before.requires.0, pos_of_ne-zero c.before.before.if1.false), tt)
+lay_digits_requires : Asks lts.Need-lay_digits-to-requires
+lay_digits_requires t c κs = (omega (arith, c.requires.0, pos_of_ne-zero c.if-places-eq0.false), tt)
 
-digit_of_requires_2 : Asks lts.Need-digit-of-requires-2
+digit_of_requires_2 : Asks lts.Need-digit_of-requires-2
 digit_of_requires_2 t c κs = search rules
 
-slice_aggregate_lay_2 : Asks lts.Need-slice-aggregate-lay-2
+slice_aggregate_lay_2 : Asks lts.Need-slice_bounds-lay-end-2
 slice_aggregate_lay_2 t c = search rules
 
 lay_requires_2 : Asks lts.Need-lay-requires-2
 lay_requires_2 t c κs = search rules
 
-same_length_2 : Asks lts.Need-same-length-2
+same_length_2 : Asks lts.Need-shape_of-out
 same_length_2 t c = search rules
 
-returns_3 : Asks lts.Need-returns-3
+returns_3 : Asks lts.Need-returns
 returns_3 t c =
-    let a = (in_else2 t c).before.before.before.args in
+    let a = (in_else2 t c).args in
     let w = start a.at a.out.now (digits a.places a.n) in
     let x = more w (omega arith) (digits (a.places - 1) (a.n / 10)) (digit a.n ∷ [])
-    (more_digits a.places a.n (in_else2 t c).before.if1.false (in_else2 t c).if2.false) (after_digit_of2 t c).before.before.before.lay-digits.ensures in
-    end x (from_as (ap (λ (k : ℕ). k ∷ []) (after_digit_of2 t c).digit-of2.ensures) c.before.before.lay2.ensures)
+    (more_digits a.places a.n (in_else2 t c).if-places-eq0.false (in_else2 t c).if-n-lt10.false) (after_digit_of2 t c).lay_digits-to.ensures in
+    end x (from_as (ap (λ (k : ℕ). k ∷ []) (after_digit_of2 t c).digit_of-2.ensures) c.lay-2.ensures)
 
-pub +lay-digits-spec : {M : Type 1} → statement M
-+lay-digits-spec = close μ λ t. lts.spec (calls t) (given t)
+pub +lay_digits_spec : {M : Type 1} → statement M
++lay_digits_spec = close μ λ t. lts.spec (calls t) (given t)
     reads.Post
     (returns t)
     (digit_of_requires t)

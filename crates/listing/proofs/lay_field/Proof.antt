@@ -9,29 +9,29 @@ use Rattle.listing.proofs.lay_field.Statement.{statement}
 use Rattle.listing.proofs.lay_field.Tie as tie
 
 -- what the proofs look back to
-abbrev after_lay : tie.After-slice-known3 → tie.After-lay
+abbrev after_lay : tie.After-slice_known-3-1 → tie.After-lay-to
 after_lay c = c.before.before.before.before.before.before.before
 
-abbrev at_start : tie.After-slice-known3 → tie.Start
+abbrev at_start : tie.After-slice_known-3-1 → tie.Start
 at_start c = (after_lay c).before.before.before.before
 
-lay_requires : tie.Need-lay-requires
+lay_requires : tie.Need-lay-to-requires
 lay_requires c κs = search rules
 
-slice_aggregate_lay : tie.Need-slice-aggregate-lay
+slice_aggregate_lay : tie.Need-slice_bounds-lay-end
 slice_aggregate_lay c = search rules
 
-lay_requires_2 : tie.Need-lay-requires-2
+lay_requires_2 : tie.Need-lay-requires
 lay_requires_2 c κs = search rules
 
-same_length : tie.Need-same-length
+same_length : tie.Need-shape_of-out
 same_length c = search rules
 
 returns : tie.Need-returns
 returns c =
     let a = (at_start c).args in
     let w = start a.at a.out.now (field a.bytes.now a.end) in
-    end (more w (omega arith) a.bytes.now (a.end ∷ []) refl (after_lay c).lay.ensures) c.before.before.lay2.ensures
+    end (more w (omega arith) a.bytes.now (a.end ∷ []) refl (after_lay c).lay-to.ensures) c.lay.ensures
 
 pub lay_field_spec : {M : Type 1} → statement M
 lay_field_spec =

@@ -12,53 +12,53 @@ use Rattle.listing.proofs.lay_listing.Statement.{statement}
 use Rattle.listing.proofs.lay_listing.Tie as tie
 
 -- what the proofs look back to
-abbrev start_of_refusal : tie.After-slice-known2 → tie.Start
+abbrev start_of_refusal : tie.After-slice_known-then-r-ne-DONE-1 → tie.Start
 start_of_refusal c = c.before.before.before.before.before.before.before.before.before.before.before
 
-abbrev at_start : tie.Else1 → tie.Start
+abbrev at_start : tie.Else-r-ne-DONE → tie.Start
 at_start c = c.before.before.before.before.before.before.before
 
-abbrev fine_before_second : tie.After-lay-section-arg2 → tie.Else1
+abbrev fine_before_second : tie.After-lay_section-arg-2-1 → tie.Else-r-ne-DONE
 fine_before_second c = c.before.before.before.before.before
 
-abbrev fine_before_third : tie.After-lay-section-arg3 → tie.Else1
+abbrev fine_before_third : tie.After-lay_section-arg-3-1 → tie.Else-r-ne-DONE
 fine_before_third c = fine_before_second c.before.before.before.before
 
-abbrev after_second : tie.After-slice-known5 → tie.After-lay-section2
+abbrev after_second : tie.After-slice_known-4-1 → tie.After-lay_section-to-2
 after_second c = c.before.before.before.before.before.before
 
-abbrev after_first : tie.After-slice-known5 → tie.After-lay-section
+abbrev after_first : tie.After-slice_known-4-1 → tie.After-lay_section-to
 after_first c = (after_second c).before.before.before.before
 
-abbrev fine : tie.After-slice-known5 → tie.Else1
+abbrev fine : tie.After-slice_known-4-1 → tie.Else-r-ne-DONE
 fine c = (after_first c).before.before
 
-lay_refusal_requires : tie.Need-lay-refusal-requires
+lay_refusal_requires : tie.Need-lay_refusal-requires
 lay_refusal_requires c κs = search rules
 
-same_length : tie.Need-same-length
+same_length : tie.Need-shape_of-out-then-r-ne-DONE
 same_length c = search rules
 
-returns : tie.Need-returns
+returns : tie.Need-returns-then-r-ne-DONE
 returns c =
     let s = start_of_refusal c in
     let a = s.args in
-    from_as (a_refusal a.r (lent a.text.now a.components.now a.properties.now a.parameters.now) c.before.before.before.before.if1.true)
-    c.before.before.lay-refusal.ensures
+    from_as (a_refusal a.r (lent a.text.now a.components.now a.properties.now a.parameters.now) c.if-r-ne-DONE.true)
+    c.lay_refusal.ensures
 
-lay_section_requires : tie.Need-lay-section-requires
-lay_section_requires c κs = (at_start c.before).requires.components c.before.if1.false
+lay_section_requires : tie.Need-lay_section-to-requires
+lay_section_requires c κs = (at_start c.before).requires.components c.if-r-ne-DONE.false
 
-lay_section_requires_2 : tie.Need-lay-section-requires-2
-lay_section_requires_2 c κs = (at_start (fine_before_second c)).requires.properties (fine_before_second c).if1.false
+lay_section_requires_2 : tie.Need-lay_section-to-requires-2
+lay_section_requires_2 c κs = (at_start (fine_before_second c)).requires.properties (fine_before_second c).if-r-ne-DONE.false
 
-lay_section_requires_3 : tie.Need-lay-section-requires-3
-lay_section_requires_3 c κs = (at_start (fine_before_third c)).requires.parameters (fine_before_third c).if1.false
+lay_section_requires_3 : tie.Need-lay_section-requires
+lay_section_requires_3 c κs = (at_start (fine_before_third c)).requires.parameters (fine_before_third c).if-r-ne-DONE.false
 
-same_length_2 : tie.Need-same-length-2
+same_length_2 : tie.Need-shape_of-out
 same_length_2 c = search rules
 
-returns_2 : tie.Need-returns-2
+returns_2 : tie.Need-returns
 returns_2 c =
     let s = at_start (fine c) in
     let a = s.args in
@@ -67,10 +67,10 @@ returns_2 c =
     let two = section_text Properties a.text.now a.properties.now r.properties in
     let three = section_text Parameters a.text.now a.parameters.now r.parameters in
     let w0 = start 0 a.out.now (one ++ (two ++ three)) in
-    let w1 = more w0 (omega arith) one (two ++ three) refl (after_first c).lay-section.ensures in
-    let w2 = more w1 (omega arith) two three refl (after_second c).lay-section2.ensures in
-    from_as (sections r (lent a.text.now a.components.now a.properties.now a.parameters.now) (fine c).if1.false)
-    (end w2 c.before.before.lay-section3.ensures)
+    let w1 = more w0 (omega arith) one (two ++ three) refl (after_first c).lay_section-to.ensures in
+    let w2 = more w1 (omega arith) two three refl (after_second c).lay_section-to-2.ensures in
+    from_as (sections r (lent a.text.now a.components.now a.properties.now a.parameters.now) (fine c).if-r-ne-DONE.false)
+    (end w2 c.lay_section.ensures)
 
 pub lay_listing_spec : {M : Type 1} → statement M
 lay_listing_spec =

@@ -14,52 +14,52 @@ use Rattle.listing.proofs.lay_parameter.Statement.{statement}
 use Rattle.listing.proofs.lay_parameter.Tie as tie
 
 -- what the proofs look back to
-abbrev after_view : tie.After-lay-number → tie.After-view
+abbrev after_view : tie.After-lay_number-to → tie.After-view-key
 after_view c = c.before.before.before.before.before.before
 
-abbrev at_start : tie.After-lay-number → tie.Start
+abbrev at_start : tie.After-lay_number-to → tie.Start
 at_start c = (after_view c).before.before.before.before.before
 
-abbrev number_of_absent : tie.After-slice-known3 → tie.After-lay-number
+abbrev number_of_absent : tie.After-slice_known-then-row-eq0-1 → tie.After-lay_number-to
 number_of_absent c = c.before.before.before.before.before.before.before.before
 
-abbrev after_lay_field2 : tie.After-slice-known5 → tie.After-lay-field2
+abbrev after_lay_field2 : tie.After-slice_known-4-1 → tie.After-lay_field-to
 after_lay_field2 c = c.before.before.before.before.before.before
 
-abbrev number_of_present : tie.After-slice-known5 → tie.After-lay-number
+abbrev number_of_present : tie.After-slice_known-4-1 → tie.After-lay_number-to
 number_of_present c = (after_lay_field2 c).before.before.before.before.before.before
 
-cast_view : tie.Need-overflow-cast-view
+cast_view : tie.Need-overflow_cast-row
 cast_view c = search rules
 
-cast_view_2 : tie.Need-overflow-cast-view-2
+cast_view_2 : tie.Need-overflow_cast-row-2
 cast_view_2 c = search rules
 
-view_requires : tie.Need-view-requires
+view_requires : tie.Need-view-key-requires
 view_requires c κs = search rules
 
-cast_view_3 : tie.Need-overflow-cast-view-3
+cast_view_3 : tie.Need-overflow_cast-row-3
 cast_view_3 c = search rules
 
-cast_view_4 : tie.Need-overflow-cast-view-4
+cast_view_4 : tie.Need-overflow_cast-row-4
 cast_view_4 c = search rules
 
-view_requires_2 : tie.Need-view-requires-2
+view_requires_2 : tie.Need-view-value-requires
 view_requires_2 c κs = search rules
 
-cast_lay_number : tie.Need-overflow-cast-lay-number
+cast_lay_number : tie.Need-overflow_cast-row-5
 cast_lay_number c = search rules
 
-lay_number_requires : tie.Need-lay-number-requires
+lay_number_requires : tie.Need-lay_number-to-requires
 lay_number_requires c κs = search rules
 
-lay_field_requires : tie.Need-lay-field-requires
+lay_field_requires : tie.Need-lay_field-requires
 lay_field_requires c κs = search rules
 
-same_length : tie.Need-same-length
+same_length : tie.Need-shape_of-out-then-row-eq0
 same_length c = search rules
 
-returns : tie.Need-returns
+returns : tie.Need-returns-then-row-eq0
 returns c =
     let s = at_start (number_of_absent c) in
     let a = s.args in
@@ -67,19 +67,19 @@ returns c =
     let text = a.text.now in
     let key = viewed text row.key_start row.key_len in
     let w0 = start a.at a.out.now (listed_parameter text row) in
-    let w1 = more w0 (omega arith) (field (decimal row.property) space) (field key lf) (absent text row c.before.before.before.before.if1.true) (number_of_absent c).lay-number.ensures in
-    end w1 (from_as (ap (λ (k : List ℕ). field k lf) (after_view (number_of_absent c)).view.ensures.0) c.before.before.lay-field.ensures)
+    let w1 = more w0 (omega arith) (field (decimal row.property) space) (field key lf) (absent text row c.if-row-eq0.true) (number_of_absent c).lay_number-to.ensures in
+    end w1 (from_as (ap (λ (k : List ℕ). field k lf) (after_view (number_of_absent c)).view-key.ensures.0) c.lay_field.ensures)
 
-lay_field_requires_2 : tie.Need-lay-field-requires-2
+lay_field_requires_2 : tie.Need-lay_field-to-requires
 lay_field_requires_2 c κs = search rules
 
-lay_field_requires_3 : tie.Need-lay-field-requires-3
+lay_field_requires_3 : tie.Need-lay_field-requires-2
 lay_field_requires_3 c κs = search rules
 
-same_length_2 : tie.Need-same-length-2
+same_length_2 : tie.Need-shape_of-out
 same_length_2 c = search rules
 
-returns_2 : tie.Need-returns-2
+returns_2 : tie.Need-returns
 returns_2 c =
     let s = at_start (number_of_present c) in
     let a = s.args in
@@ -89,10 +89,10 @@ returns_2 c =
     let value = viewed text row.value_start row.value_len in
     let w0 = start a.at a.out.now (listed_parameter text row) in
     let w1 = more w0 (omega arith) (field (decimal row.property) space) (field key equals ++ field value lf)
-    (present text row (after_lay_field2 c).before.before.if1.false) (number_of_present c).lay-number.ensures in
+    (present text row (after_lay_field2 c).if-row-eq0.false) (number_of_present c).lay_number-to.ensures in
     let w2 = more w1 (omega arith) (field key equals) (field value lf) refl
-    (from_as (ap (λ (k : List ℕ). field k equals) (after_view (number_of_present c)).view.ensures.0) (after_lay_field2 c).lay-field2.ensures) in
-    end w2 (from_as (ap (λ (k : List ℕ). field k lf) (number_of_present c).before.before.before.view2.ensures.0) c.before.before.lay-field3.ensures)
+    (from_as (ap (λ (k : List ℕ). field k equals) (after_view (number_of_present c)).view-key.ensures.0) (after_lay_field2 c).lay_field-to.ensures) in
+    end w2 (from_as (ap (λ (k : List ℕ). field k lf) (number_of_present c).view-value.ensures.0) c.lay_field-2.ensures)
 
 pub lay_parameter_spec : {M : Type 1} → statement M
 lay_parameter_spec =

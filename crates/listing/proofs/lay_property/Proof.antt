@@ -13,49 +13,49 @@ use Rattle.listing.proofs.lay_property.Statement.{statement}
 use Rattle.listing.proofs.lay_property.Tie as tie
 
 -- what the proofs look back to
-abbrev after_lay_field : tie.After-slice-known4 → tie.After-lay-field
+abbrev after_lay_field : tie.After-slice_known-4-1 → tie.After-lay_field-to
 after_lay_field c = c.before.before.before.before.before.before
 
-abbrev after_lay_number : tie.After-slice-known4 → tie.After-lay-number
+abbrev after_lay_number : tie.After-slice_known-4-1 → tie.After-lay_number-to
 after_lay_number c = (after_lay_field c).before.before.before.before
 
-abbrev after_view : tie.After-slice-known4 → tie.After-view
+abbrev after_view : tie.After-slice_known-4-1 → tie.After-view-key
 after_view c = (after_lay_number c).before.before.before.before.before.before
 
-abbrev at_start : tie.After-slice-known4 → tie.Start
+abbrev at_start : tie.After-slice_known-4-1 → tie.Start
 at_start c = (after_view c).before.before.before.before.before
 
-cast_view : tie.Need-overflow-cast-view
+cast_view : tie.Need-overflow_cast-row
 cast_view c = search rules
 
-cast_view_2 : tie.Need-overflow-cast-view-2
+cast_view_2 : tie.Need-overflow_cast-row-2
 cast_view_2 c = search rules
 
-view_requires : tie.Need-view-requires
+view_requires : tie.Need-view-key-requires
 view_requires c κs = search rules
 
-cast_view_3 : tie.Need-overflow-cast-view-3
+cast_view_3 : tie.Need-overflow_cast-row-3
 cast_view_3 c = search rules
 
-cast_view_4 : tie.Need-overflow-cast-view-4
+cast_view_4 : tie.Need-overflow_cast-row-4
 cast_view_4 c = search rules
 
-view_requires_2 : tie.Need-view-requires-2
+view_requires_2 : tie.Need-view-value-requires
 view_requires_2 c κs = search rules
 
-cast_lay_number : tie.Need-overflow-cast-lay-number
+cast_lay_number : tie.Need-overflow_cast-row-5
 cast_lay_number c = search rules
 
-lay_number_requires : tie.Need-lay-number-requires
+lay_number_requires : tie.Need-lay_number-to-requires
 lay_number_requires c κs = search rules
 
-lay_field_requires : tie.Need-lay-field-requires
+lay_field_requires : tie.Need-lay_field-to-requires
 lay_field_requires c κs = search rules
 
-lay_field_requires_2 : tie.Need-lay-field-requires-2
+lay_field_requires_2 : tie.Need-lay_field-requires
 lay_field_requires_2 c κs = search rules
 
-same_length : tie.Need-same-length
+same_length : tie.Need-shape_of-out
 same_length c = search rules
 
 returns : tie.Need-returns
@@ -67,9 +67,9 @@ returns c =
     let key = viewed text row.key_start row.key_len in
     let value = viewed text row.value_start row.value_len in
     let w0 = start a.at a.out.now (listed_property text row) in
-    let w1 = more w0 (omega arith) (field (decimal row.owner) space) (field key space ++ field value lf) refl (after_lay_number c).lay-number.ensures in
-    let w2 = more w1 (omega arith) (field key space) (field value lf) refl (from_as (ap (λ (k : List ℕ). field k space) (after_view c).view.ensures.0) (after_lay_field c).lay-field.ensures) in
-    end w2 (from_as (ap (λ (k : List ℕ). field k lf) (after_lay_number c).before.before.before.view2.ensures.0) c.before.before.lay-field2.ensures)
+    let w1 = more w0 (omega arith) (field (decimal row.owner) space) (field key space ++ field value lf) refl (after_lay_number c).lay_number-to.ensures in
+    let w2 = more w1 (omega arith) (field key space) (field value lf) refl (from_as (ap (λ (k : List ℕ). field k space) (after_view c).view-key.ensures.0) (after_lay_field c).lay_field-to.ensures) in
+    end w2 (from_as (ap (λ (k : List ℕ). field k lf) (after_lay_number c).view-value.ensures.0) c.lay_field.ensures)
 
 pub lay_property_spec : {M : Type 1} → statement M
 lay_property_spec =

@@ -11,55 +11,52 @@ use Rattle.listing.proofs.lay_refusal.Statement.{statement}
 use Rattle.listing.proofs.lay_refusal.Tie as tie
 
 -- what the proofs look back to
-abbrev after_lay_number5 : tie.After-slice-known8 → tie.After-lay-number5
+abbrev after_lay_number5 : tie.After-slice_known-8-1 → tie.After-lay_number-to-5
 after_lay_number5 c = c.before.before.before.before.before.before
 
-abbrev after_lay_number4 : tie.After-slice-known8 → tie.After-lay-number4
+abbrev after_lay_number4 : tie.After-slice_known-8-1 → tie.After-lay_number-to-4
 after_lay_number4 c = (after_lay_number5 c).before.before.before.before
 
-abbrev after_lay_number3 : tie.After-slice-known8 → tie.After-lay-number3
+abbrev after_lay_number3 : tie.After-slice_known-8-1 → tie.After-lay_number-to-3
 after_lay_number3 c = (after_lay_number4 c).before.before.before.before
 
-abbrev after_lay_number2 : tie.After-slice-known8 → tie.After-lay-number2
+abbrev after_lay_number2 : tie.After-slice_known-8-1 → tie.After-lay_number-to-2
 after_lay_number2 c = (after_lay_number3 c).before.before.before.before
 
-abbrev after_lay_number : tie.After-slice-known8 → tie.After-lay-number
+abbrev after_lay_number : tie.After-slice_known-8-1 → tie.After-lay_number-to
 after_lay_number c = (after_lay_number2 c).before.before.before.before
 
-abbrev after_lay_field : tie.After-slice-known8 → tie.After-lay-field
+abbrev after_lay_field : tie.After-slice_known-8-1 → tie.After-lay_field-to
 after_lay_field c = (after_lay_number c).before.before.before.before.before
 
-abbrev at_start : tie.After-slice-known8 → tie.Start
-at_start c = (after_lay_field c).before.before.before.before
+abbrev at_start : tie.After-slice_known-8-1 → tie.Start
+at_start c = (after_lay_field c).before.before.before.before.before
 
-slice_aggregate_lay_field : tie.Need-slice-aggregate-lay-field
-slice_aggregate_lay_field c = search rules
-
-lay_field_requires : tie.Need-lay-field-requires
+lay_field_requires : tie.Need-lay_field-to-requires
 lay_field_requires c κs = search rules
 
-cast_lay_number : tie.Need-overflow-cast-lay-number
+cast_lay_number : tie.Need-overflow_cast-r
 cast_lay_number c = search rules
 
-lay_number_requires : tie.Need-lay-number-requires
+lay_number_requires : tie.Need-lay_number-to-requires
 lay_number_requires c κs = search rules
 
-lay_number_requires_2 : tie.Need-lay-number-requires-2
+lay_number_requires_2 : tie.Need-lay_number-to-requires-2
 lay_number_requires_2 c κs = search rules
 
-lay_number_requires_3 : tie.Need-lay-number-requires-3
+lay_number_requires_3 : tie.Need-lay_number-to-requires-3
 lay_number_requires_3 c κs = search rules
 
-lay_number_requires_4 : tie.Need-lay-number-requires-4
+lay_number_requires_4 : tie.Need-lay_number-to-requires-4
 lay_number_requires_4 c κs = search rules
 
-lay_number_requires_5 : tie.Need-lay-number-requires-5
+lay_number_requires_5 : tie.Need-lay_number-to-requires-5
 lay_number_requires_5 c κs = search rules
 
-lay_number_requires_6 : tie.Need-lay-number-requires-6
+lay_number_requires_6 : tie.Need-lay_number-requires
 lay_number_requires_6 c κs = search rules
 
-same_length : tie.Need-same-length
+same_length : tie.Need-shape_of-out
 same_length c = search rules
 
 returns : tie.Need-returns
@@ -73,19 +70,18 @@ returns c =
     let f2 = field (decimal r.place) space ++ f3 in
     let f1 = field (decimal r.answer) space ++ f2 in
     let w0 = start 0 a.out.now (refused r) in
-    let w1 = more w0 (omega arith) (field (114 ∷ 101 ∷ 102 ∷ 117 ∷ 115 ∷ 101 ∷ 100 ∷ []) space) f1 refl (after_lay_field c).lay-field.ensures in
-    let w2 = more w1 (omega arith) (field (decimal r.answer) space) f2 refl (after_lay_number c).lay-number.ensures in
-    let w3 = more w2 (omega arith) (field (decimal r.place) space) f3 refl (after_lay_number2 c).lay-number2.ensures in
-    let w4 = more w3 (omega arith) (field (decimal r.length) space) f4 refl (after_lay_number3 c).lay-number3.ensures in
-    let w5 = more w4 (omega arith) (field (decimal r.components) space) f5 refl (after_lay_number4 c).lay-number4.ensures in
-    let w6 = more w5 (omega arith) (field (decimal r.properties) space) (field (decimal r.parameters) lf) refl (after_lay_number5 c).lay-number5.ensures in
-    end w6 c.before.before.lay-number6.ensures
+    let w1 = more w0 (omega arith) (field (114 ∷ 101 ∷ 102 ∷ 117 ∷ 115 ∷ 101 ∷ 100 ∷ []) space) f1 refl (after_lay_field c).lay_field-to.ensures in
+    let w2 = more w1 (omega arith) (field (decimal r.answer) space) f2 refl (after_lay_number c).lay_number-to.ensures in
+    let w3 = more w2 (omega arith) (field (decimal r.place) space) f3 refl (after_lay_number2 c).lay_number-to-2.ensures in
+    let w4 = more w3 (omega arith) (field (decimal r.length) space) f4 refl (after_lay_number3 c).lay_number-to-3.ensures in
+    let w5 = more w4 (omega arith) (field (decimal r.components) space) f5 refl (after_lay_number4 c).lay_number-to-4.ensures in
+    let w6 = more w5 (omega arith) (field (decimal r.properties) space) (field (decimal r.parameters) lf) refl (after_lay_number5 c).lay_number-to-5.ensures in
+    end w6 c.lay_number.ensures
 
 pub lay_refusal_spec : {M : Type 1} → statement M
 lay_refusal_spec =
     tie.close
     (tie.spec
-    slice_aggregate_lay_field
     lay_field_requires
     cast_lay_number
     lay_number_requires

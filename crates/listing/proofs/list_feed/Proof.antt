@@ -5,25 +5,25 @@ use Rattle.listing.proofs.list_feed.Statement.{statement}
 use Rattle.listing.proofs.list_feed.Tie as tie
 
 -- what the proofs look back to
-abbrev after_list : tie.After-slice-known2 → tie.After-list
+abbrev after_list : tie.After-slice_known-2-1 → tie.After-list
 after_list c = c.before.before.before.before.before.before
 
-slice_aggregate_list : tie.Need-slice-aggregate-list
+slice_aggregate_list : tie.Need-slice_bounds-list-end
 slice_aggregate_list c = search rules
 
-slice_aggregate_list_2 : tie.Need-slice-aggregate-list-2
+slice_aggregate_list_2 : tie.Need-slice_bounds-list-end-2
 slice_aggregate_list_2 c = search rules
 
-slice_aggregate_list_3 : tie.Need-slice-aggregate-list-3
+slice_aggregate_list_3 : tie.Need-slice_bounds-list-end-3
 slice_aggregate_list_3 c = search rules
 
-slice_aggregate_list_4 : tie.Need-slice-aggregate-list-4
+slice_aggregate_list_4 : tie.Need-slice_bounds-list-end-4
 slice_aggregate_list_4 c = search rules
 
 list_requires : tie.Need-list-requires
 list_requires c κs = search rules
 
-same_length : tie.Need-same-length
+same_length : tie.Need-shape_of-out
 same_length c = search rules
 
 returns : tie.Need-returns

@@ -3,13 +3,13 @@ use borrow.Author.Rules.{rules}
 use Rattle.matching.proofs.same_name.Statement.{statement}
 use Rattle.matching.proofs.same_name.Tie as tie
 
-span_requires : tie.Need-span-requires
+span_requires : tie.Need-span-one-requires
 span_requires c κs = search rules
 
-span_requires_2 : tie.Need-span-requires-2
+span_requires_2 : tie.Need-span-other-requires
 span_requires_2 c κs = search rules
 
-same_part_requires : tie.Need-same-part-requires
+same_part_requires : tie.Need-same_part-requires
 same_part_requires c κs = search rules
 
 returns : tie.Need-returns

@@ -15,26 +15,26 @@ use Rattle.matching.proofs.Properties.{Comparing, inside, starts, other_shorter,
 use Rattle.matching.proofs.same_properties.Statement.{statement}
 use Rattle.matching.proofs.same_properties.Tie as tie
 
-abbrev invariant_loop : tie.invariant-loop
-invariant_loop values text table words a b a-last b-last i₀ j₀ p₀ q₀ i j p q =
+abbrev invariant-loop-i : tie.invariant-loop-i
+invariant-loop-i values text table words a b a-last b-last i₀ j₀ p₀ q₀ i j p q =
     Comparing (values_by values) text table words a.row a-last b.row b-last
     (alike (same_property_by (values_by values) same_parameters) (properties_of text (properties_in table) (parameters_in words) a.row)
     (properties_of text (properties_in table) (parameters_in words) b.row))
     i j p q
 
-abbrev decreases_loop : tie.decreases-loop
-decreases_loop values text table words a b a-last b-last i₀ j₀ p₀ q₀ i j p q = a-last - i
+abbrev decreases-loop-i : tie.decreases-loop-i
+decreases-loop-i values text table words a b a-last b-last i₀ j₀ p₀ q₀ i j p q = a-last - i
 
-abbrev At : (tie.invariant-loop → tie.decreases-loop → Type 0) → Type 0
-At R = R invariant_loop decreases_loop
+abbrev At : (tie.invariant-loop-i → tie.decreases-loop-i → Type 0) → Type 0
+At R = R invariant-loop-i decreases-loop-i
 
-abbrev at_start : At tie.After-shared-slice-known3 → At tie.Start
+abbrev at_start : At tie.After-shared_slice_known-3-1 → At tie.Start
 at_start c = c.before.before.before
 
-abbrev start_of : At tie.At-loop → At tie.Start
+abbrev start_of : At tie.At-loop-i → At tie.Start
 start_of l = at_start l.before.before.before
 
-abbrev loop_of : At tie.After-same-property → At tie.At-loop
+abbrev loop_of : At tie.After-same_property → At tie.At-loop-i
 loop_of c = c.before.before.before.before.before
 
 -- both windows lie in the table
@@ -48,93 +48,93 @@ other_inside s =
     let a = s.args in
     inside a.text.now a.properties.now a.parameters.now a.b.row a.b.window s.requires.2
 
-next_own_requires : tie.Need-next-own-requires invariant_loop decreases_loop
+next_own_requires : tie.Need-next_own-i-requires invariant-loop-i decreases-loop-i
 next_own_requires c κs = one_inside (at_start c)
 
-next_own_requires_2 : tie.Need-next-own-requires-2 invariant_loop decreases_loop
+next_own_requires_2 : tie.Need-next_own-j-requires invariant-loop-i decreases-loop-i
 next_own_requires_2 c κs = other_inside (at_start c.before)
 
-loop_holds : tie.Need-loop-init invariant_loop decreases_loop
+loop_holds : tie.Need-loop-i-init invariant-loop-i decreases-loop-i
 loop_holds c =
     let s = at_start c.before.before in
     let a = s.args in
-    starts (values_by a.values) a.text.now a.properties.now a.parameters.now a.a.row a.b.row a.a.window a.b.window s.pre.1 s.pre.2
-    c.before.next_own.ensures c.next-own2.ensures
+    starts (values_by a.values) a.text.now a.properties.now a.parameters.now a.a.row a.b.row a.a.window a.b.window s.requires.1 s.requires.2
+    c.next_own-i.ensures c.next_own-j.ensures
 
-returns : tie.Need-returns invariant_loop decreases_loop
+returns : tie.Need-returns-then-b_last-j invariant-loop-i decreases-loop-i
 returns c =
     let l = c.before.before in
     let s = start_of l in
     let a = s.args in
     other_shorter (values_by a.values) a.text.now a.properties.now a.parameters.now a.a.row a.a.window.last a.b.row a.b.window.last
-    (one_inside s) (other_inside s) l.loop.invariant c.before.loop-test.true c.if1.true
+    (one_inside s) (other_inside s) l.loop-i.invariant c.loop-i-test.true c.if-b_last-j.true
 
-first_held_requires : tie.Need-first-held-requires invariant_loop decreases_loop
+first_held_requires : tie.Need-first_held-p-requires invariant-loop-i decreases-loop-i
 first_held_requires c κs = search rules
 
-first_held_requires_2 : tie.Need-first-held-requires-2 invariant_loop decreases_loop
+first_held_requires_2 : tie.Need-first_held-q-requires invariant-loop-i decreases-loop-i
 first_held_requires_2 c κs = search rules
 
-same_property_requires : tie.Need-same-property-requires invariant_loop decreases_loop
+same_property_requires : tie.Need-same_property-requires invariant-loop-i decreases-loop-i
 same_property_requires c κs =
-    let e = c.before.before in
-    let s = start_of e.before.before in
-    (omega (arith, one_inside s, e.before.loop-test.true), omega (arith, other_inside s, e.if1.false))
+    let e = c in
+    let s = start_of e.before.before.before.before in
+    (omega (arith, one_inside s, e.loop-i-test.true), omega (arith, other_inside s, e.if-b_last-j.false))
 
-returns_2 : tie.Need-returns-2 invariant_loop decreases_loop
+returns_2 : tie.Need-returns-then-not-same_property invariant-loop-i decreases-loop-i
 returns_2 c =
     let d = c.before in
-    let e = d.before.before.before in
+    let e = d in
     let l = loop_of d in
     let s = start_of l in
     let a = s.args in
     first_differs (values_by a.values) a.text.now a.properties.now a.parameters.now a.a.row a.a.window.last a.b.row a.b.window.last
-    (one_inside s) (other_inside s) l.loop.inv s.pre.0 e.before.loop-test.true e.if1.false
-    d.before.before.first-held.ensures d.before.first-held2.ensures
-    (sym d.same-property.ensures ∙ not-true _ c.if2.true)
+    (one_inside s) (other_inside s) l.loop-i.invariant s.requires.0 e.loop-i-test.true e.if-b_last-j.false
+    d.first_held-p.ensures d.first_held-q.ensures
+    (sym d.same_property.ensures ∙ not-true _ c.if-not-same_property.true-raw)
 
-add_next_own : tie.Need-overflow-add-next-own invariant_loop decreases_loop
+add_next_own : tie.Need-overflow_add-i invariant-loop-i decreases-loop-i
 add_next_own c = omega (arith, one_inside (start_of (loop_of c.before)))
 
-next_own_requires_3 : tie.Need-next-own-requires-3 invariant_loop decreases_loop
+next_own_requires_3 : tie.Need-next_own-i-requires-in-loop-i invariant-loop-i decreases-loop-i
 next_own_requires_3 c κs = one_inside (start_of (loop_of c.before))
 
-add_next_own_2 : tie.Need-overflow-add-next-own-2 invariant_loop decreases_loop
+add_next_own_2 : tie.Need-overflow_add-j invariant-loop-i decreases-loop-i
 add_next_own_2 c = omega (arith, other_inside (start_of (loop_of c.before.before)))
 
-next_own_requires_4 : tie.Need-next-own-requires-4 invariant_loop decreases_loop
+next_own_requires_4 : tie.Need-next_own-j-requires-in-loop-i invariant-loop-i decreases-loop-i
 next_own_requires_4 c κs = other_inside (start_of (loop_of c.before.before))
 
-loop_less : tie.Need-loop-smaller invariant_loop decreases_loop
+loop_less : tie.Need-loop-i-smaller invariant-loop-i decreases-loop-i
 loop_less c = omega arith
 
-loop_again : tie.Need-loop-preserved invariant_loop decreases_loop
+loop_again : tie.Need-loop-i-preserved invariant-loop-i decreases-loop-i
 loop_again c =
     let d = c.before.before.before in
-    let e = d.before.before.before in
+    let e = d in
     let l = loop_of d in
     let s = start_of l in
     let a = s.args in
     first_agrees (values_by a.values) a.text.now a.properties.now a.parameters.now a.a.row a.a.window.last a.b.row a.b.window.last
-    (one_inside s) (other_inside s) l.loop.inv s.pre.0 e.before.loop-test.true e.if1.false
-    d.before.before.first-held.ensures d.before.first-held2.ensures
-    (sym d.same-property.ensures ∙ not-false _ c.before.before.if2.false)
-    c.before.next-own3.ensures c.next-own4.ensures
+    (one_inside s) (other_inside s) l.loop-i.invariant s.requires.0 e.loop-i-test.true e.if-b_last-j.false
+    d.first_held-p.ensures d.first_held-q.ensures
+    (sym d.same_property.ensures ∙ not-false _ c.if-not-same_property.false-raw)
+    c.next_own-i-in-loop-i.ensures c.next_own-j-in-loop-i.ensures
 
-returns_3 : tie.Need-returns-3 invariant_loop decreases_loop
+returns_3 : tie.Need-returns invariant-loop-i decreases-loop-i
 returns_3 c =
     let l = c.before in
     let s = start_of l in
     let a = s.args in
     one_ended (values_by a.values) a.text.now a.properties.now a.parameters.now a.a.row a.a.window.last a.b.row a.b.window.last
-    (one_inside s) (other_inside s) l.loop.invariant c.loop-test.false
+    (one_inside s) (other_inside s) l.loop-i.invariant c.loop-i-test.false
 
 pub same_properties_spec : {M : Type 1} → statement M
 same_properties_spec =
     tie.close
     (tie.spec
-    invariant_loop
-    decreases_loop
+    invariant-loop-i
+    decreases-loop-i
     next_own_requires
     next_own_requires_2
     loop_holds

@@ -16,44 +16,44 @@ named : (same : List ℕ → List ℕ → Bool) (text : List ℕ) {r : Bool} {s 
     → r ≡ same (viewed text s.start s.len) (viewed text t.start t.len) → r ≡ same (viewed text a n) (viewed text b m)
 named same text e f g = cc
 
-span_requires : tie.Need-span-requires
+span_requires : tie.Need-span-one-requires
 span_requires c κs = search rules
 
-span_requires_2 : tie.Need-span-requires-2
+span_requires_2 : tie.Need-span-other-requires
 span_requires_2 c κs = search rules
 
-enum_told : tie.Need-enum-told
+enum_told : tie.Need-enum_told-1
 enum_told c = search rules
 
-same_part_requires : tie.Need-same-part-requires
+same_part_requires : tie.Need-same_part-requires
 same_part_requires c κs = search rules
 
-enum_told_2 : tie.Need-enum-told-2
+enum_told_2 : tie.Need-enum_told-in-AsText
 enum_told_2 c = search rules
 
 view_requires : tie.Need-view-requires
 view_requires c κs = search rules
 
-view_requires_2 : tie.Need-view-requires-2
+view_requires_2 : tie.Need-view-requires-in-AsText
 view_requires_2 c κs = search rules
 
-same_text_requires : tie.Need-same-text-requires
+same_text_requires : tie.Need-same_text-requires
 same_text_requires c κs = search rules
 
-returns : tie.Need-returns
+returns : tie.Need-returns-in-Exact
 returns c =
-    let e = c.before in
-    let s = e.before.before in
-    rw e.enum_told.given.1 (named same_value s.before.before.before.args.text.now s.before.span.ensures s.span2.ensures c.same-part.ensures)
+    let e = c in
+    let s = e in
+    rw e.in-Exact.is (named same_value s.args.text.now s.span-one.ensures s.span-other.ensures c.same_part.ensures)
 
-returns_2 : tie.Need-returns-2
+returns_2 : tie.Need-returns-in-AsText
 returns_2 c =
-    let v = c.before in
-    let e = v.before.before in
-    let s = e.before.before in
-    rw e.enum-told2.given.1
-    (named same_text s.before.before.before.args.text.now s.before.span.ensures s.span2.ensures
-    (rw (← v.before.view.ensures.0, ← v.view2.ensures.0) c.same_text.ensures))
+    let v = c in
+    let e = v in
+    let s = e in
+    rw e.in-AsText.is
+    (named same_text s.args.text.now s.span-one.ensures s.span-other.ensures
+    (rw (← v.view.ensures.0, ← v.view-in-AsText.ensures.0) c.same_text.ensures))
 
 pub same_value_spec : {M : Type 1} → statement M
 same_value_spec =

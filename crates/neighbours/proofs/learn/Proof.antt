@@ -4,13 +4,13 @@ use mathlib.Core.Path.{sym, ◌∙◌}
 use Rattle.neighbours.proofs.learn.Statement.{statement}
 use Rattle.neighbours.proofs.learn.Tie as tie
 
-returns : tie.Need-returns
+returns : tie.Need-returns-then-order
 returns c = search rules
 
-in_order_requires : tie.Need-in-order-requires
+in_order_requires : tie.Need-in_order-requires
 in_order_requires c κs = search rules
 
-returns_2 : tie.Need-returns-2
+returns_2 : tie.Need-returns
 returns_2 c = λ o. sym c.in_order.ensures ∙ o
 
 pub learn_spec : {M : Type 1} → statement M

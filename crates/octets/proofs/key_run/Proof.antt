@@ -10,47 +10,47 @@ use Rattle.octets.proofs.Runs.{Ran, ran_all, ran_more, ran_end}
 use Rattle.octets.proofs.key_run.Statement.{statement}
 use Rattle.octets.proofs.key_run.Tie as tie
 
-abbrev invariant_loop : tie.invariant-loop
-invariant_loop line i₀ i = Ran key_byte line i
+abbrev invariant-loop-i : tie.invariant-loop-i
+invariant-loop-i line i₀ i = Ran key_byte line i
 
-abbrev decreases_loop : tie.decreases-loop
-decreases_loop line i₀ i = length line - i
+abbrev decreases-loop-i : tie.decreases-loop-i
+decreases-loop-i line i₀ i = length line - i
 
-skip_capitals_requires : tie.Need-skip-capitals-requires invariant_loop decreases_loop
+skip_capitals_requires : tie.Need-skip_capitals-i-requires invariant-loop-i decreases-loop-i
 skip_capitals_requires c κs = search rules
 
-loop_holds : tie.Need-loop-init invariant_loop decreases_loop
-loop_holds c = record { inside = c.skip-capitals.ensures.0; left = c.skip-capitals.ensures.1 }
+loop_holds : tie.Need-loop-i-init invariant-loop-i decreases-loop-i
+loop_holds c = record { inside = c.skip_capitals-i.ensures.0; left = c.skip_capitals-i.ensures.1 }
 
-shared_slice_read_is_key_byte : tie.Need-shared-slice-read-is-key-byte invariant_loop decreases_loop
+shared_slice_read_is_key_byte : tie.Need-bounds-line-i invariant-loop-i decreases-loop-i
 shared_slice_read_is_key_byte c = search rules
 
-is_key_byte_requires : tie.Need-is-key-byte-requires invariant_loop decreases_loop
+is_key_byte_requires : tie.Need-is_key_byte-requires invariant-loop-i decreases-loop-i
 is_key_byte_requires c κs = search rules
 
-returns : tie.Need-returns invariant_loop decreases_loop
+returns : tie.Need-returns-then-not-is_key_byte invariant-loop-i decreases-loop-i
 returns c = let turn = c.before.before.before in
-    ran_end turn.before.loop.invariant turn.loop-test.true (sym c.before.is-key-byte.ensures ∙ not-true _ c.if1.true)
+    ran_end turn.before.loop-i.invariant turn.loop-i-test.true (sym c.before.is_key_byte.ensures ∙ not-true _ c.if-not-is_key_byte.true-raw)
 
-add_i : tie.Need-overflow-add-i invariant_loop decreases_loop
+add_i : tie.Need-overflow_add-i invariant-loop-i decreases-loop-i
 add_i c = omega arith
 
-loop_less : tie.Need-loop-smaller invariant_loop decreases_loop
+loop_less : tie.Need-loop-i-smaller invariant-loop-i decreases-loop-i
 loop_less c = omega arith
 
-loop_again : tie.Need-loop-preserved invariant_loop decreases_loop
+loop_again : tie.Need-loop-i-preserved invariant-loop-i decreases-loop-i
 loop_again c = let turn = c.before.before.before in
-    ran_more turn.before.loop.invariant turn.loop-test.true (sym c.before.is-key-byte.ensures ∙ not-false _ c.if1.false)
+    ran_more turn.before.loop-i.invariant turn.loop-i-test.true (sym c.before.is_key_byte.ensures ∙ not-false _ c.if-not-is_key_byte.false-raw)
 
-returns_2 : tie.Need-returns-2 invariant_loop decreases_loop
-returns_2 c = ran_all c.before.loop.invariant c.loop-test.false
+returns_2 : tie.Need-returns invariant-loop-i decreases-loop-i
+returns_2 c = ran_all c.before.loop-i.invariant c.loop-i-test.false
 
 pub key_run_spec : {M : Type 1} → statement M
 key_run_spec =
     tie.close
     (tie.spec
-    invariant_loop
-    decreases_loop
+    invariant-loop-i
+    decreases-loop-i
     skip_capitals_requires
     loop_holds
     shared_slice_read_is_key_byte

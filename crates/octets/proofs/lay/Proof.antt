@@ -7,25 +7,25 @@ use Rattle.octets.proofs.Writing.{lent_back, at_most}
 use Rattle.octets.proofs.lay.Statement.{statement}
 use Rattle.octets.proofs.lay.Tie as tie
 
-least_requires : tie.Need-least-requires
+least_requires : tie.Need-least-from-requires
 least_requires c κs = search rules
 
-sub_put : tie.Need-overflow-sub-put
+sub_put : tie.Need-slice_bounds-put-count
 sub_put c = search rules
 
-part_put_start : tie.Need-slice-bounds-put-start
+part_put_start : tie.Need-slice_bounds-put-start
 part_put_start c = search rules
 
-part_put_end : tie.Need-slice-bounds-put-end
+part_put_end : tie.Need-slice_bounds-put-end
 part_put_end c = search rules
 
 put_requires : tie.Need-put-requires
 put_requires c κs = search rules
 
-count_on_requires : tie.Need-count-on-requires
+count_on_requires : tie.Need-count_on-requires
 count_on_requires c κs = search rules
 
-same_length : tie.Need-same-length
+same_length : tie.Need-shape_of-out
 same_length c = search rules
 
 returns : tie.Need-returns
@@ -33,7 +33,7 @@ returns c =
     let p = c.before.before.before in
     let e = p.before.before in
     let s = e.before.before.before in
-    let l = e.least in
+    let l = e.least-from in
     let old = s.args.out.now in
     record {
       count = c.count_on.ensures;

@@ -3,23 +3,23 @@ use borrow.Author.Rules.{rules}
 use Rattle.octets.proofs.marks_outside.Statement.{statement}
 use Rattle.octets.proofs.marks_outside.Tie as tie
 
-enum_told : tie.Need-enum-told
+enum_told : tie.Need-enum_told-1
 enum_told c = search rules
 
-marks_of_others_requires : tie.Need-marks-of-others-requires
+marks_of_others_requires : tie.Need-marks_of_others-requires
 marks_of_others_requires c κs = search rules
 
-enum_told_2 : tie.Need-enum-told-2
+enum_told_2 : tie.Need-enum_told-in-Common
 enum_told_2 c = search rules
 
-marks_of_uncommon_requires : tie.Need-marks-of-uncommon-requires
+marks_of_uncommon_requires : tie.Need-marks_of_uncommon-requires
 marks_of_uncommon_requires c κs = search rules
 
-returns : tie.Need-returns
-returns c = rw c.before.enum_told.given.1 c.marks-of-others.ensures
+returns : tie.Need-returns-in-Capital
+returns c = rw c.before.in-Capital.is c.marks_of_others.ensures
 
-returns_2 : tie.Need-returns-2
-returns_2 c = rw c.before.enum-told2.given.1 c.marks-of-uncommon.ensures
+returns_2 : tie.Need-returns-in-Common
+returns_2 c = rw c.before.in-Common.is c.marks_of_uncommon.ensures
 
 pub marks_outside_spec : {M : Type 1} → statement M
 marks_outside_spec =

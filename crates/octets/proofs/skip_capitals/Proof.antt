@@ -1,6 +1,6 @@
 -- `octets::skip_capitals`: the bytes passed and the run from here on make the whole run.
 use mathlib.Core.List.{List}
-use Prim.Native.Nat.{ℕ, ◌≤◌, ◌+◌, ◌-◌}
+use Prim.Native.Nat.{ℕ, ◌≤◌, ◌+◌}
 use mathlib.Core.Path.{◌≡◌, sym, ◌∙◌}
 use mathlib.Core.Bool.{true}
 use native.Mathlib.Nat.{zero-add}
@@ -17,73 +17,73 @@ use Rattle.octets.proofs.skip_capitals.Tie as tie
 key : (x : ℕ) → capital x ≡ true → key_byte x ≡ true
 key x e = rw e
 
-abbrev invariant_loop : tie.invariant-loop
-invariant_loop line i₀ left₀ i left = (i + left ≡ length line) × (i + run key_byte (drop i line) ≡ run key_byte line)
+abbrev invariant-loop-left : tie.invariant-loop-left
+invariant-loop-left line i₀ left₀ i left = (i + left ≡ length line) × (i + run key_byte (drop i line) ≡ run key_byte line)
 
-abbrev decreases_loop : tie.decreases-loop
-decreases_loop line i₀ left₀ i left = left
+abbrev decreases-loop-left : tie.decreases-loop-left
+decreases-loop-left line i₀ left₀ i left = left
 
-abbrev At : (tie.invariant-loop → tie.decreases-loop → Type 0) → Type 0
-At place = place invariant_loop decreases_loop
+abbrev At : (tie.invariant-loop-left → tie.decreases-loop-left → Type 0) → Type 0
+At place = place invariant-loop-left decreases-loop-left
 
 -- what the proofs look back to
-abbrev line_of : At tie.After-first-mark → List ℕ
+abbrev line_of : At tie.After-first_mark → List ℕ
 line_of c = c.before.before.before.before.before.before.args.line.now
 
-abbrev line_in_turn : At tie.Else1 → List ℕ
+abbrev line_in_turn : At tie.Else-marked-ne0 → List ℕ
 line_in_turn c = c.before.before.before.before.before.args.line.now
 
-loop_holds : tie.Need-loop-init invariant_loop decreases_loop
+loop_holds : tie.Need-loop-left-init invariant-loop-left decreases-loop-left
 loop_holds c = (zero-add _, zero-add _)
 
-marks_of_others_requires : tie.Need-marks-of-others-requires invariant_loop decreases_loop
+marks_of_others_requires : tie.Need-marks_of_others-marked-requires invariant-loop-left decreases-loop-left
 marks_of_others_requires c κs = omega arith
 
-first_mark_requires : tie.Need-first-mark-requires invariant_loop decreases_loop
+first_mark_requires : tie.Need-first_mark-requires invariant-loop-left decreases-loop-left
 first_mark_requires c κs = search rules
 
 -- as many capital letters stand at i as bytes before the first mark
-here : (c : At tie.After-first-mark) → let line = line_of c in
-    run capital (drop c.before.before.before.before.loop.i line) ≡ c.first_mark.result
+here : (c : At tie.After-first_mark) → let line = line_of c in
+    run capital (drop c.before.before.before.before.loop-left.i line) ≡ c.first_mark.result
 here c =
     let line = line_of c in
-    let m = c.before.before.marks-of-others in
-    ends_here capital line c.before.before.before.before.loop.i (omega arith) m.result m.ensures c.before.if1.true ∙ sym c.first_mark.ensures
+    let m = c.before.before.marks_of_others-marked in
+    ends_here capital line c.before.before.before.before.loop-left.i (omega arith) m.result m.ensures c.before.if-marked-ne0.true ∙ sym c.first_mark.ensures
 
-fits : (c : At tie.After-first-mark) → let line = line_of c in
-    c.before.before.before.before.loop.i + c.first_mark.result ≤ length line
+fits : (c : At tie.After-first_mark) → let line = line_of c in
+    c.before.before.before.before.loop-left.i + c.first_mark.result ≤ length line
 fits c =
-    let line = line_of c in let i = c.before.before.before.before.loop.i in
+    let line = line_of c in let i = c.before.before.before.before.loop-left.i in
     omega (arith, here c, within capital (drop i line), length-drop i line)
 
-add_result : tie.Need-overflow-add-result invariant_loop decreases_loop
+add_result : tie.Need-overflow_add-result invariant-loop-left decreases-loop-left
 add_result c = omega (arith, fits c)
 
-returns : tie.Need-returns invariant_loop decreases_loop
-returns c = let line = line_of c in let i = c.before.before.before.before.loop.i in
+returns : tie.Need-returns-then-marked-ne0 invariant-loop-left decreases-loop-left
+returns c = let line = line_of c in let i = c.before.before.before.before.loop-left.i in
     (fits c, omega (arith, wider_at capital key_byte key line i c.first_mark.result (omega (arith, here c))))
 
-add_i : tie.Need-overflow-add-i invariant_loop decreases_loop
+add_i : tie.Need-overflow_add-i invariant-loop-left decreases-loop-left
 add_i c = omega arith
 
-loop_less : tie.Need-loop-smaller invariant_loop decreases_loop
+loop_less : tie.Need-loop-left-smaller invariant-loop-left decreases-loop-left
 loop_less c = omega arith
 
-loop_again : tie.Need-loop-preserved invariant_loop decreases_loop
-loop_again c = let line = line_in_turn c in let i = c.before.before.before.loop.i in
-    let m = c.before.marks-of-others in
-    let on = goes_on capital line i (omega arith) m.result m.ensures c.if1.false in
+loop_again : tie.Need-loop-left-preserved invariant-loop-left decreases-loop-left
+loop_again c = let line = line_in_turn c in let i = c.before.before.before.loop-left.i in
+    let m = c.before.marks_of_others-marked in
+    let on = goes_on capital line i (omega arith) m.result m.ensures c.if-marked-ne0.false in
     (omega arith, omega (arith, wider_at capital key_byte key line i 8 (omega (arith, on))))
 
-returns_2 : tie.Need-returns-2 invariant_loop decreases_loop
-returns_2 c = (omega arith, c.before.loop.invariant.1)
+returns_2 : tie.Need-returns invariant-loop-left decreases-loop-left
+returns_2 c = (omega arith, c.before.loop-left.invariant.1)
 
 pub skip_capitals_spec : {M : Type 1} → statement M
 skip_capitals_spec =
     tie.close
     (tie.spec
-    invariant_loop
-    decreases_loop
+    invariant-loop-left
+    decreases-loop-left
     loop_holds
     marks_of_others_requires
     first_mark_requires

@@ -8,52 +8,52 @@ use borrow.Author.Rules.{rules}
 use Rattle.octets.proofs.view.Statement.{statement}
 use Rattle.octets.proofs.view.Tie as tie
 
-sub_result : tie.Need-overflow-sub-result
+sub_result : tie.Need-slice_bounds-result-count
 sub_result c = search rules
 
-part_result_start : tie.Need-slice-bounds-result-start
+part_result_start : tie.Need-slice_bounds-result-start
 part_result_start c = search rules
 
-part_result_end : tie.Need-slice-bounds-result-end
+part_result_end : tie.Need-slice_bounds-result-end
 part_result_end c = search rules
 
-returns : tie.Need-returns
+returns : tie.Need-returns-then-text-start
 returns c =
     let s = c.before.before.args in
     let outside = lt-leb (s.start + s.len) (length s.text.now) (omega arith) in
     (rw outside, rw outside)
 
-sub_if2 : tie.Need-overflow-sub-if2
+sub_if2 : tie.Need-overflow_sub-text
 sub_if2 c = search rules
 
-sub_result_2 : tie.Need-overflow-sub-result-2
+sub_result_2 : tie.Need-slice_bounds-result-count-then-text-start-2
 sub_result_2 c = search rules
 
-part_result_start_2 : tie.Need-slice-bounds-result-start-2
+part_result_start_2 : tie.Need-slice_bounds-result-start-then-text-start-2
 part_result_start_2 c = search rules
 
-part_result_end_2 : tie.Need-slice-bounds-result-end-2
+part_result_end_2 : tie.Need-slice_bounds-result-end-then-text-start-2
 part_result_end_2 c = search rules
 
-returns_2 : tie.Need-returns-2
+returns_2 : tie.Need-returns-then-text-start-2
 returns_2 c =
     let s = c.before.before.before.args in
     let outside = lt-leb (s.start + s.len) (length s.text.now) (omega arith) in
     (rw outside, rw outside)
 
-add_end : tie.Need-overflow-add-end
+add_end : tie.Need-overflow_add-end
 add_end c = search rules
 
-sub_result_3 : tie.Need-overflow-sub-result-3
+sub_result_3 : tie.Need-slice_bounds-result-count-2
 sub_result_3 c = search rules
 
-part_result_start_3 : tie.Need-slice-bounds-result-start-3
+part_result_start_3 : tie.Need-slice_bounds-result-start-2
 part_result_start_3 c = search rules
 
-part_result_end_3 : tie.Need-slice-bounds-result-end-3
+part_result_end_3 : tie.Need-slice_bounds-result-end-2
 part_result_end_3 c = search rules
 
-returns_3 : tie.Need-returns-3
+returns_3 : tie.Need-returns
 returns_3 c =
     let s = c.before.before.before.args in
     let inside = le-leb (s.start + s.len) (length s.text.now) (omega arith) in

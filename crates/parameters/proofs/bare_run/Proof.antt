@@ -10,46 +10,46 @@ use Rattle.octets.proofs.Runs.{Ran, ran_start, ran_all, ran_more, ran_end}
 use Rattle.parameters.proofs.bare_run.Statement.{statement}
 use Rattle.parameters.proofs.bare_run.Tie as tie
 
-abbrev invariant_loop : tie.invariant-loop
-invariant_loop a i₀ i = Ran bare a i
+abbrev invariant-loop-i : tie.invariant-loop-i
+invariant-loop-i a i₀ i = Ran bare a i
 
-abbrev decreases_loop : tie.decreases-loop
-decreases_loop a i₀ i = length a - i
+abbrev decreases-loop-i : tie.decreases-loop-i
+decreases-loop-i a i₀ i = length a - i
 
-loop_holds : tie.Need-loop-init invariant_loop decreases_loop
+loop_holds : tie.Need-loop-i-init invariant-loop-i decreases-loop-i
 loop_holds c = ran_start bare _
 
-shared_slice_read_is_bare : tie.Need-shared-slice-read-is-bare invariant_loop decreases_loop
+shared_slice_read_is_bare : tie.Need-bounds-a-i invariant-loop-i decreases-loop-i
 shared_slice_read_is_bare c = omega arith
 
-is_bare_requires : tie.Need-is-bare-requires invariant_loop decreases_loop
+is_bare_requires : tie.Need-is_bare-requires invariant-loop-i decreases-loop-i
 is_bare_requires c κs = omega arith
 
-returns : tie.Need-returns invariant_loop decreases_loop
+returns : tie.Need-returns-then-not-is_bare invariant-loop-i decreases-loop-i
 returns c =
-    let l = c.before.before.before in
-    ran_end l.before.loop.invariant l.loop-test.true (sym c.before.is-bare.ensures ∙ not-true _ c.if1.true)
+    let l = c in
+    ran_end l.loop-i.invariant l.loop-i-test.true (sym c.is_bare.ensures ∙ not-true _ c.if-not-is_bare.true-raw)
 
-add_i : tie.Need-overflow-add-i invariant_loop decreases_loop
+add_i : tie.Need-overflow_add-i invariant-loop-i decreases-loop-i
 add_i c = omega arith
 
-loop_less : tie.Need-loop-smaller invariant_loop decreases_loop
+loop_less : tie.Need-loop-i-smaller invariant-loop-i decreases-loop-i
 loop_less c = omega arith
 
-loop_again : tie.Need-loop-preserved invariant_loop decreases_loop
+loop_again : tie.Need-loop-i-preserved invariant-loop-i decreases-loop-i
 loop_again c =
-    let l = c.before.before.before in
-    ran_more l.before.loop.invariant l.loop-test.true (sym c.before.is-bare.ensures ∙ not-false _ c.if1.false)
+    let l = c in
+    ran_more l.loop-i.invariant l.loop-i-test.true (sym c.is_bare.ensures ∙ not-false _ c.if-not-is_bare.false-raw)
 
-returns_2 : tie.Need-returns-2 invariant_loop decreases_loop
-returns_2 c = ran_all c.before.loop.invariant c.loop-test.false
+returns_2 : tie.Need-returns invariant-loop-i decreases-loop-i
+returns_2 c = ran_all c.loop-i.invariant c.loop-i-test.false
 
 pub bare_run_spec : {M : Type 1} → statement M
 bare_run_spec =
     tie.close
     (tie.spec
-    invariant_loop
-    decreases_loop
+    invariant-loop-i
+    decreases-loop-i
     loop_holds
     shared_slice_read_is_bare
     is_bare_requires

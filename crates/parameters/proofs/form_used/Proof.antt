@@ -5,31 +5,31 @@ use borrow.Author.Rules.{rules}
 use Rattle.parameters.proofs.form_used.Statement.{statement}
 use Rattle.parameters.proofs.form_used.Tie as tie
 
-enum_told : tie.Need-enum-told
+enum_told : tie.Need-enum_told-1
 enum_told c = search rules
 
-enum_known_form : tie.Need-enum-known-form
+enum_known_form : tie.Need-enum_known-form
 enum_known_form c = search rules
 
-enum_known_form_2 : tie.Need-enum-known-form-2
+enum_known_form_2 : tie.Need-enum_known-form-in-Quoted-1
 enum_known_form_2 c = search rules
 
-add_result : tie.Need-overflow-add-result
-add_result c = omega (arith, rw c.before.form2.given.1 at c.before.before.before.requires)
+add_result : tie.Need-overflow_add-result
+add_result c = omega (arith, rw c.in-Quoted.is at c.requires)
 
-enum_known_form_3 : tie.Need-enum-known-form-3
+enum_known_form_3 : tie.Need-enum_known-form-in-Listed-1
 enum_known_form_3 c = search rules
 
-returns : tie.Need-returns
+returns : tie.Need-returns-in-Nothing
 returns c = search rules
 
-returns_2 : tie.Need-returns-2
+returns_2 : tie.Need-returns-in-Bare
 returns_2 c = search rules
 
-returns_3 : tie.Need-returns-3
-returns_3 c = rw c.before.form2.given.1
+returns_3 : tie.Need-returns-in-Quoted
+returns_3 c = rw c.in-Quoted.is
 
-returns_4 : tie.Need-returns-4
+returns_4 : tie.Need-returns-in-Listed
 returns_4 c = search rules
 
 pub form_used_spec : {M : Type 1} → statement M

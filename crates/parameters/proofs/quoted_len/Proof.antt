@@ -7,28 +7,28 @@ use borrow.Author.Rules.{rules}
 use Rattle.parameters.proofs.quoted_len.Statement.{statement}
 use Rattle.parameters.proofs.quoted_len.Tie as tie
 
-byte_at_requires : tie.Need-byte-at-requires
+byte_at_requires : tie.Need-byte_at-requires
 byte_at_requires c κs = search rules
 
-returns : tie.Need-returns
+returns : tie.Need-returns-then-byte_at-ne34
 returns c = sym (quoted_none _ (λ q. omega (arith, q.opens)))
 
-find_near_requires : tie.Need-find-near-requires
+find_near_requires : tie.Need-find_near-end-requires
 find_near_requires c κs = search rules
 
-returns_2 : tie.Need-returns-2
+returns_2 : tie.Need-returns-then-end-eq1
 returns_2 c = sym (quoted_none _ (λ q. omega (arith, q.inside)))
 
-returns_3 : tie.Need-returns-3
+returns_3 : tie.Need-returns-then-end-a
 returns_3 c = sym (quoted_none _ (λ q. omega (arith, quoted_room q)))
 
-add_result : tie.Need-overflow-add-result
+add_result : tie.Need-overflow_add-result
 add_result c = search rules
 
-returns_4 : tie.Need-returns-4
+returns_4 : tie.Need-returns
 returns_4 c =
-    let found = c.before.before in
-    quoted_closed _ _ (sym found.before.before.byte_at.ensures ∙ found.before.if1.false) found.find-near.ensures c.before.if2.false c.if3.false
+    let found = c in
+    quoted_closed _ _ (sym found.byte_at.ensures ∙ found.if-byte_at-ne34.false) found.find_near-end.ensures c.if-end-eq1.false c.if-end-a.false
 
 pub quoted_len_spec : {M : Type 1} → statement M
 quoted_len_spec =

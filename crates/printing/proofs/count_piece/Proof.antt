@@ -10,30 +10,30 @@ use Rattle.printing.proofs.Pens.{whole}
 use Rattle.printing.proofs.count_piece.Statement.{statement}
 use Rattle.printing.proofs.count_piece.Tie as tie
 
-sub_t8 : tie.Need-overflow-sub-t8
+sub_t8 : tie.Need-overflow_sub-result
 sub_t8 c = search rules
 
-count_on_requires : tie.Need-count-on-requires
+count_on_requires : tie.Need-count_on-requires
 count_on_requires c κs = search rules
 
-returns : tie.Need-returns
+returns : tie.Need-returns-then-piece-pen
 returns c =
-    let a = c.before.before.before.before.before.args in
-    whole c.before.before.if1.true refl (counts a.pen.at a.piece.now c.count_on.ensures)
+    let a = c.args in
+    whole c.if-piece-pen.true refl (counts a.pen.at a.piece.now c.count_on.ensures)
 
-count_piece_requires : tie.Need-count-piece-requires
+count_piece_requires : tie.Need-count_piece-counted-requires
 count_piece_requires c κs = search rules
 
-count_on_requires_2 : tie.Need-count-on-requires-2
+count_on_requires_2 : tie.Need-count_on-requires-2
 count_on_requires_2 c κs = search rules
 
-returns_2 : tie.Need-returns-2
+returns_2 : tie.Need-returns
 returns_2 c =
-    let a = c.before.before.before.before.before.args in
-    let folded = c.before.count-piece.ensures in
+    let a = c.args in
+    let folded = c.count_piece-counted.ensures in
     record {
       left = ap (λ (f : Folded). f.column.left) folded;
-      lays = counts a.pen.at (folded_units a.pen.left (units a.piece.now)) (omega (arith, c.count-on2.ensures, ap (λ (f : Folded). f.length) folded));
+      lays = counts a.pen.at (folded_units a.pen.left (units a.piece.now)) (omega (arith, c.count_on-2.ensures, ap (λ (f : Folded). f.length) folded));
     }
 
 pub count_piece_spec : {M : Type 1} → statement M

@@ -9,62 +9,59 @@ use Rattle.printing.proofs.Pens.{marks_front, behind_mark, before_mark, one_mark
 use Rattle.printing.proofs.count_property.Statement.{statement}
 use Rattle.printing.proofs.count_property.Tie as tie
 
-abbrev listed : tie.After-count-on → tie.After-count-parameters
-listed c = c.before.before.before.before
+abbrev listed : tie.After-count_on → tie.After-count_parameters-listed
+listed c = c.before.before.before.before.before.before
 
-abbrev value_of_place : tie.After-count-on → tie.After-view2
+abbrev value_of_place : tie.After-count_on → tie.After-view-value
 value_of_place c = (listed c).before.before
 
-abbrev key_of : tie.After-count-on → tie.After-view
+abbrev key_of : tie.After-count_on → tie.After-view-key
 key_of c = (value_of_place c).before.before.before
 
-abbrev start_of : tie.After-count-on → tie.Start
+abbrev start_of : tie.After-count_on → tie.Start
 start_of c = (key_of c).before.before.before.before.before
 
-cast_view : tie.Need-overflow-cast-view
+cast_view : tie.Need-overflow_cast-p
 cast_view c = search rules
 
-cast_view_2 : tie.Need-overflow-cast-view-2
+cast_view_2 : tie.Need-overflow_cast-p-2
 cast_view_2 c = search rules
 
-view_requires : tie.Need-view-requires
+view_requires : tie.Need-view-key-requires
 view_requires c κs = search rules
 
-cast_view_3 : tie.Need-overflow-cast-view-3
+cast_view_3 : tie.Need-overflow_cast-p-3
 cast_view_3 c = search rules
 
-cast_view_4 : tie.Need-overflow-cast-view-4
+cast_view_4 : tie.Need-overflow_cast-p-4
 cast_view_4 c = search rules
 
-view_requires_2 : tie.Need-view-requires-2
+view_requires_2 : tie.Need-view-value-requires
 view_requires_2 c κs = search rules
 
-count_piece_requires : tie.Need-count-piece-requires
+count_piece_requires : tie.Need-count_piece-named-requires
 count_piece_requires c κs = search rules
 
-count_parameters_requires : tie.Need-count-parameters-requires
+count_parameters_requires : tie.Need-count_parameters-listed-requires
 count_parameters_requires c κs = search rules
 
-slice_aggregate_count_piece : tie.Need-slice-aggregate-count-piece
-slice_aggregate_count_piece c = search rules
-
-count_piece_requires_2 : tie.Need-count-piece-requires-2
+count_piece_requires_2 : tie.Need-count_piece-marked-requires
 count_piece_requires_2 c κs = search rules
 
-count_piece_requires_3 : tie.Need-count-piece-requires-3
+count_piece_requires_3 : tie.Need-count_piece-end-requires
 count_piece_requires_3 c κs = search rules
 
-count_on_requires : tie.Need-count-on-requires
+count_on_requires : tie.Need-count_on-requires
 count_on_requires c κs = search rules
 
 returns : tie.Need-returns
 returns c =
     let a = (start_of c).args in
-    let rows = (listed c).count-parameters.ensures in
-    let value = behind_mark c.before.before.count-piece2.ensures c.before.count-piece3.ensures zero-le (one_mark colon refl) in
+    let rows = (listed c).count_parameters-listed.ensures in
+    let value = behind_mark c.count_piece-marked.ensures c.count_piece-end.ensures zero-le (one_mark colon refl) in
     let own = own_parameters a.text.now a.number a.first (parameters_in a.parameters.now) in
-    let line = before_mark (before_mark (listed c).before.count-piece.ensures rows.0 zero-le (marked own)) value zero-le (marks_front colon _ refl) in
-    let e = parts a.text.now a.p a.number a.first (parameters_in a.parameters.now) (key_of c).view.ensures.0 (value_of_place c).view2.ensures.0 in
+    let line = before_mark (before_mark (listed c).count_piece-named.ensures rows.0 zero-le (marked own)) value zero-le (marks_front colon _ refl) in
+    let e = parts a.text.now a.p a.number a.first (parameters_in a.parameters.now) (key_of c).view-key.ensures.0 (value_of_place c).view-value.ensures.0 in
     (closed_count (piece_as e line) c.count_on.ensures, rows.1)
 
 pub count_property_spec : {M : Type 1} → statement M
@@ -79,7 +76,6 @@ count_property_spec =
     view_requires_2
     count_piece_requires
     count_parameters_requires
-    slice_aggregate_count_piece
     count_piece_requires_2
     count_piece_requires_3
     count_on_requires

@@ -10,64 +10,52 @@ use Rattle.printing.proofs.Pens.{marks_front, behind_mark, before_mark, one_mark
 use Rattle.printing.proofs.count_value.Statement.{statement}
 use Rattle.printing.proofs.count_value.Tie as tie
 
-abbrev bare_test : tie.After-count-piece2 → tie.Then1
-bare_test c = c.before.before.before
+abbrev bare_test : tie.After-count_piece → tie.Then-not-wraps
+bare_test c = c.before.before.before.before
 
-abbrev quoted_test : tie.After-count-piece5 → tie.Else1
-quoted_test c = c.before.before.before.before.before
+abbrev quoted_test : tie.After-count_piece-2 → tie.Else-not-wraps
+quoted_test c = c.before.before.before.before.before.before.before
 
 wraps_requires : tie.Need-wraps-requires
 wraps_requires c κs = search rules
 
-slice_aggregate_count_piece : tie.Need-slice-aggregate-count-piece
-slice_aggregate_count_piece c = search rules
-
-count_piece_requires : tie.Need-count-piece-requires
+count_piece_requires : tie.Need-count_piece-marked-requires
 count_piece_requires c κs = search rules
 
-count_piece_requires_2 : tie.Need-count-piece-requires-2
+count_piece_requires_2 : tie.Need-count_piece-requires
 count_piece_requires_2 c κs = search rules
 
-returns : tie.Need-returns
+returns : tie.Need-returns-then-not-wraps
 returns c =
     let t = bare_test c in
-    let e = stays t.before.before.before.args.part.now (sym t.before.wraps.ensures ∙ not-true _ t.if1.taken) in
-    piece_as (ap (λ (k : List ℕ). equals ∷ k) e) (behind_mark c.before.count-piece.ensures c.count-piece2.ensures zero-le (one_mark equals refl))
+    let e = stays t.args.part.now (sym t.wraps.ensures ∙ not-true _ t.if-not-wraps.true-raw) in
+    piece_as (ap (λ (k : List ℕ). equals ∷ k) e) (behind_mark c.count_piece-marked.ensures c.count_piece.ensures zero-le (one_mark equals refl))
 
-slice_aggregate_count_piece_2 : tie.Need-slice-aggregate-count-piece-2
-slice_aggregate_count_piece_2 c = search rules
-
-count_piece_requires_3 : tie.Need-count-piece-requires-3
+count_piece_requires_3 : tie.Need-count_piece-opened-requires
 count_piece_requires_3 c κs = search rules
 
-count_piece_requires_4 : tie.Need-count-piece-requires-4
+count_piece_requires_4 : tie.Need-count_piece-end-requires
 count_piece_requires_4 c κs = search rules
 
-slice_aggregate_count_piece_3 : tie.Need-slice-aggregate-count-piece-3
-slice_aggregate_count_piece_3 c = search rules
-
-count_piece_requires_5 : tie.Need-count-piece-requires-5
+count_piece_requires_5 : tie.Need-count_piece-requires-2
 count_piece_requires_5 c κs = search rules
 
-returns_2 : tie.Need-returns-2
+returns_2 : tie.Need-returns
 returns_2 c =
     let t = quoted_test c in
-    let e = in_quotes t.before.before.before.args.part.now (sym t.before.wraps.ensures ∙ not-false _ t.if1.left) in
-    let front = behind_mark c.before.before.before.count-piece3.ensures c.before.before.count-piece4.ensures zero-le two_marks in
-    piece_as (ap (λ (k : List ℕ). equals ∷ k) (sym e)) (before_mark front c.count-piece5.ensures zero-le (marks_front quote [] refl))
+    let e = in_quotes t.args.part.now (sym t.wraps.ensures ∙ not-false _ t.if-not-wraps.false-raw) in
+    let front = behind_mark c.count_piece-opened.ensures c.count_piece-end.ensures zero-le two_marks in
+    piece_as (ap (λ (k : List ℕ). equals ∷ k) (sym e)) (before_mark front c.count_piece-2.ensures zero-le (marks_front quote [] refl))
 
 pub count_value_spec : {M : Type 1} → statement M
 count_value_spec =
     tie.close
     (tie.spec
     wraps_requires
-    slice_aggregate_count_piece
     count_piece_requires
     count_piece_requires_2
     returns
-    slice_aggregate_count_piece_2
     count_piece_requires_3
     count_piece_requires_4
-    slice_aggregate_count_piece_3
     count_piece_requires_5
     returns_2)

@@ -6,70 +6,70 @@ use Rattle.printing.proofs.Pens.{Listing, begin, turn, other, over}
 use Rattle.printing.proofs.lay_parameters.Statement.{statement}
 use Rattle.printing.proofs.lay_parameters.Tie as tie
 
-abbrev invariant_loop : tie.invariant-loop
-invariant_loop text parameters number first out₀ rows pen₀ next₀ out pen next = Listing text parameters number first pen₀ out₀ out pen next
+abbrev invariant-loop-next : tie.invariant-loop-next
+invariant-loop-next text parameters number first out₀ rows pen₀ next₀ out pen next = Listing text parameters number first pen₀ out₀ out pen next
 
-abbrev decreases_loop : tie.decreases-loop
-decreases_loop text parameters number first out₀ rows pen₀ next₀ out pen next = rows - next
+abbrev decreases-loop-next : tie.decreases-loop-next
+decreases-loop-next text parameters number first out₀ rows pen₀ next₀ out pen next = rows - next
 
-abbrev At : (tie.invariant-loop → tie.decreases-loop → Type 0) → Type 0
-At place = place invariant_loop decreases_loop
+abbrev At : (tie.invariant-loop-next → tie.decreases-loop-next → Type 0) → Type 0
+At place = place invariant-loop-next decreases-loop-next
 
-abbrev turned : At tie.After-slice-known2 → At tie.At-loop
+abbrev turned : At tie.After-slice_known-in-loop-next-1 → At tie.At-loop-next
 turned c = c.before.before.before.before.before.before.before.before
 
-abbrev row_of : At tie.After-slice-known2 → At tie.After-parameter-at
+abbrev row_of : At tie.After-slice_known-in-loop-next-1 → At tie.After-parameter_at-p
 row_of c = c.before.before.before.before.before.before
 
-parameter_rows_requires : tie.Need-parameter-rows-requires invariant_loop decreases_loop
+parameter_rows_requires : tie.Need-parameter_rows-rows-requires invariant-loop-next decreases-loop-next
 parameter_rows_requires c κs = search rules
 
-loop_holds : tie.Need-loop-init invariant_loop decreases_loop
+loop_holds : tie.Need-loop-next-init invariant-loop-next decreases-loop-next
 loop_holds c =
-    let a = c.before.before.before.before.args in
+    let a = c.args in
     begin a.text.now a.parameters.now a.number a.first a.pen a.out.now (omega arith)
 
-parameter_at_requires : tie.Need-parameter-at-requires invariant_loop decreases_loop
-parameter_at_requires c κs = omega (arith, c.before.before.parameter_rows.ensures)
+parameter_at_requires : tie.Need-parameter_at-p-requires invariant-loop-next decreases-loop-next
+parameter_at_requires c κs = omega (arith, c.parameter_rows-rows.ensures)
 
-cast_if1 : tie.Need-overflow-cast-if1 invariant_loop decreases_loop
+cast_if1 : tie.Need-overflow_cast-p invariant-loop-next decreases-loop-next
 cast_if1 c = search rules
 
-same_length : tie.Need-same-length invariant_loop decreases_loop
-same_length c = c.before.before.before.before.loop.invariant.same
+same_length : tie.Need-shape_of-out-then-p-number invariant-loop-next decreases-loop-next
+same_length c = c.loop-next.invariant.same
 
-returns : tie.Need-returns invariant_loop decreases_loop
+returns : tie.Need-returns-then-p-number invariant-loop-next decreases-loop-next
 returns c =
-    let l = c.before.before.before.before in
-    other l.loop.invariant (omega (arith, l.before.parameter_rows.ensures)) c.before.before.parameter-at.ensures c.if1.true
+    let l = c in
+    other l.loop-next.invariant (omega (arith, l.parameter_rows-rows.ensures)) c.parameter_at-p.ensures c.if-p-number.true
 
-lay_parameter_requires : tie.Need-lay-parameter-requires invariant_loop decreases_loop
+lay_parameter_requires : tie.Need-lay_parameter-pen-requires invariant-loop-next decreases-loop-next
 lay_parameter_requires c κs = search rules
 
-add_next : tie.Need-overflow-add-next invariant_loop decreases_loop
+add_next : tie.Need-overflow_add-next invariant-loop-next decreases-loop-next
 add_next c = omega arith
 
-loop_less : tie.Need-loop-smaller invariant_loop decreases_loop
+loop_less : tie.Need-loop-next-smaller invariant-loop-next decreases-loop-next
 loop_less c = omega arith
 
-loop_again : tie.Need-loop-preserved invariant_loop decreases_loop
+loop_again : tie.Need-loop-next-preserved invariant-loop-next decreases-loop-next
 loop_again c =
     let l = turned c in
-    turn l.loop.inv (omega (arith, l.before.parameter_rows.ensures)) (row_of c).parameter-at.ensures c.before.before.before.before.if1.false (omega arith)
-    c.before.before.lay-parameter.ensures
+    turn l.loop-next.invariant (omega (arith, l.parameter_rows-rows.ensures)) (row_of c).parameter_at-p.ensures c.if-p-number.false (omega arith)
+    c.lay_parameter-pen.ensures
 
-same_length_2 : tie.Need-same-length-2 invariant_loop decreases_loop
-same_length_2 c = c.before.loop.invariant.same
+same_length_2 : tie.Need-shape_of-out invariant-loop-next decreases-loop-next
+same_length_2 c = c.loop-next.invariant.same
 
-returns_2 : tie.Need-returns-2 invariant_loop decreases_loop
-returns_2 c = over c.before.loop.invariant (omega (arith, c.before.before.parameter_rows.ensures))
+returns_2 : tie.Need-returns invariant-loop-next decreases-loop-next
+returns_2 c = over c.loop-next.invariant (omega (arith, c.parameter_rows-rows.ensures))
 
 pub lay_parameters_spec : {M : Type 1} → statement M
 lay_parameters_spec =
     tie.close
     (tie.spec
-    invariant_loop
-    decreases_loop
+    invariant-loop-next
+    decreases-loop-next
     parameter_rows_requires
     loop_holds
     parameter_at_requires

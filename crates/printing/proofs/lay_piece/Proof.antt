@@ -13,50 +13,50 @@ use Rattle.printing.proofs.Pens.{whole}
 use Rattle.printing.proofs.lay_piece.Statement.{statement}
 use Rattle.printing.proofs.lay_piece.Tie as tie
 
-abbrev least_of : tie.After-count-on → tie.After-least
+abbrev least_of : tie.After-count_on → tie.After-least-from
 least_of c = c.before.before.before.before.before
 
-abbrev start_of : tie.After-count-on → tie.Start
+abbrev start_of : tie.After-count_on → tie.Start
 start_of c = (least_of c).before.before.before.before.before
 
-sub_t10 : tie.Need-overflow-sub-t10
+sub_t10 : tie.Need-overflow_sub-result
 sub_t10 c = search rules
 
 lay_requires : tie.Need-lay-requires
 lay_requires c κs = search rules
 
-same_length : tie.Need-same-length
+same_length : tie.Need-shape_of-out-then-piece-pen
 same_length c = search rules
 
-returns : tie.Need-returns
-returns c = whole c.before.before.before.before.before.if1.true refl c.before.before.lay.ensures
+returns : tie.Need-returns-then-piece-pen
+returns c = whole c.if-piece-pen.true refl c.lay.ensures
 
-least_requires : tie.Need-least-requires
+least_requires : tie.Need-least-from-requires
 least_requires c κs = search rules
 
-sub_fold_piece : tie.Need-overflow-sub-fold-piece
+sub_fold_piece : tie.Need-slice_bounds-fold_piece-count
 sub_fold_piece c = search rules
 
-part_fold_piece_start : tie.Need-slice-bounds-fold-piece-start
+part_fold_piece_start : tie.Need-slice_bounds-fold_piece-start
 part_fold_piece_start c = search rules
 
-part_fold_piece_end : tie.Need-slice-bounds-fold-piece-end
+part_fold_piece_end : tie.Need-slice_bounds-fold_piece-end
 part_fold_piece_end c = search rules
 
-fold_piece_requires : tie.Need-fold-piece-requires
+fold_piece_requires : tie.Need-fold_piece-folded-requires
 fold_piece_requires c κs = search rules
 
-count_on_requires : tie.Need-count-on-requires
+count_on_requires : tie.Need-count_on-requires
 count_on_requires c κs = search rules
 
-same_length_2 : tie.Need-same-length-2
+same_length_2 : tie.Need-shape_of-out
 same_length_2 c = search rules
 
-returns_2 : tie.Need-returns-2
+returns_2 : tie.Need-returns
 returns_2 c =
     let a = (start_of c).args in
-    let l = (least_of c).least in
-    let folded = c.before.before.before.fold-piece.ensures in
+    let l = (least_of c).least-from in
+    let folded = c.fold_piece-folded.ensures in
     let bytes = folded_units a.pen.left (units a.piece.now) in
     record {
       left = ap (λ (f : Folded). f.column.left) folded.0;

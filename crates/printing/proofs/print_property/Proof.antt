@@ -16,91 +16,91 @@ use Rattle.printing.proofs.Pens.{marks_front, before_mark, marked, piece_as, clo
 use Rattle.printing.proofs.print_property.Statement.{statement}
 use Rattle.printing.proofs.print_property.Tie as tie
 
-abbrev whole_test : tie.After-slice-known2 → tie.Then1
+abbrev whole_test : tie.After-slice_known-then-has_parameters-stands_whole-1 → tie.Then-has_parameters-stands_whole
 whole_test c = c.before.before.before.before
 
-abbrev ended : tie.After-slice-known6 → tie.After-lay-after
+abbrev ended : tie.After-slice_known-5-1 → tie.After-lay_after-end
 ended c = c.before.before.before.before.before.before
 
-abbrev listed : tie.After-slice-known6 → tie.After-lay-parameters
-listed c = (ended c).before.before.before.before
+abbrev listed : tie.After-slice_known-5-1 → tie.After-lay_parameters-listed
+listed c = (ended c).before.before.before.before.before
 
-abbrev named : tie.After-slice-known6 → tie.After-lay-piece
+abbrev named : tie.After-slice_known-5-1 → tie.After-lay_piece-named
 named c = (listed c).before.before.before.before
 
-abbrev value_of_place : tie.After-slice-known6 → tie.After-view2
+abbrev value_of_place : tie.After-slice_known-5-1 → tie.After-view-value
 value_of_place c = (named c).before.before
 
-abbrev key_of : tie.After-slice-known6 → tie.After-view
+abbrev key_of : tie.After-slice_known-5-1 → tie.After-view-key
 key_of c = (value_of_place c).before.before.before
 
-abbrev start_of : tie.After-slice-known6 → tie.Start
+abbrev start_of : tie.After-slice_known-5-1 → tie.Start
 start_of c = (key_of c).before.before.before.before.before.before.before.before.before
 
-has_parameters_requires : tie.Need-has-parameters-requires
+has_parameters_requires : tie.Need-has_parameters-requires
 has_parameters_requires c κs = search rules
 
-stands_whole_requires : tie.Need-stands-whole-requires
+stands_whole_requires : tie.Need-stands_whole-requires
 stands_whole_requires c κs = search rules
 
-print_whole_requires : tie.Need-print-whole-requires
+print_whole_requires : tie.Need-print_whole-requires
 print_whole_requires c κs = search rules
 
-same_length : tie.Need-same-length
+same_length : tie.Need-shape_of-out-then-has_parameters-stands_whole
 same_length c = search rules
 
-returns : tie.Need-returns
+returns : tie.Need-returns-then-has_parameters-stands_whole
 returns c =
     let t = whole_test c in
-    let a = t.before.before.before.before.before.before.args in
-    let tests = both _ _ t.if1.taken in
-    let none = t.before.before.has-parameters.ensures (not-true _ tests.0) in
-    let e = bare a.text.now a.p a.number a.first (parameters_in a.parameters.now) none (t.before.stands-whole.ensures tests.1) in
-    (from_as (ap closed_line e) c.before.before.print-whole.ensures, omega (arith, none))
+    let a = t.args in
+    let tests = both _ _ t.if-has_parameters-stands_whole.true in
+    let none = t.has_parameters.ensures (not-true _ tests.0) in
+    let e = bare a.text.now a.p a.number a.first (parameters_in a.parameters.now) none (t.stands_whole.ensures tests.1) in
+    (from_as (ap closed_line e) c.print_whole.ensures, omega (arith, none))
 
-cast_view : tie.Need-overflow-cast-view
+cast_view : tie.Need-overflow_cast-p
 cast_view c = search rules
 
-cast_view_2 : tie.Need-overflow-cast-view-2
+cast_view_2 : tie.Need-overflow_cast-p-2
 cast_view_2 c = search rules
 
-view_requires : tie.Need-view-requires
+view_requires : tie.Need-view-key-requires
 view_requires c κs = search rules
 
-cast_view_3 : tie.Need-overflow-cast-view-3
+cast_view_3 : tie.Need-overflow_cast-p-3
 cast_view_3 c = search rules
 
-cast_view_4 : tie.Need-overflow-cast-view-4
+cast_view_4 : tie.Need-overflow_cast-p-4
 cast_view_4 c = search rules
 
-view_requires_2 : tie.Need-view-requires-2
+view_requires_2 : tie.Need-view-value-requires
 view_requires_2 c κs = search rules
 
-lay_piece_requires : tie.Need-lay-piece-requires
+lay_piece_requires : tie.Need-lay_piece-named-requires
 lay_piece_requires c κs = search rules
 
-lay_parameters_requires : tie.Need-lay-parameters-requires
+lay_parameters_requires : tie.Need-lay_parameters-listed-requires
 lay_parameters_requires c κs = search rules
 
-lay_after_requires : tie.Need-lay-after-requires
+lay_after_requires : tie.Need-lay_after-end-requires
 lay_after_requires c κs = search rules
 
-lay_end_requires : tie.Need-lay-end-requires
+lay_end_requires : tie.Need-lay_end-requires
 lay_end_requires c κs = search rules
 
-same_length_2 : tie.Need-same-length-2
+same_length_2 : tie.Need-shape_of-out
 same_length_2 c = search rules
 
-returns_2 : tie.Need-returns-2
+returns_2 : tie.Need-returns
 returns_2 c =
     let s = start_of c in
     let a = s.args in
     let h : length a.out.now ≤ most = omega arith in
-    let listed = (listed c).lay-parameters.ensures in
+    let listed = (listed c).lay_parameters-listed.ensures in
     let own = own_parameters a.text.now a.number a.first (parameters_in a.parameters.now) in
-    let line = before_mark (before_mark (named c).lay-piece.ensures listed.0 h (marked own)) (ended c).lay-after.ensures h (marks_front colon _ refl) in
-    let e = parts a.text.now a.p a.number a.first (parameters_in a.parameters.now) (key_of c).view.ensures.0 (value_of_place c).view2.ensures.0 in
-    (closed (piece_as e line) c.before.before.lay-end.ensures h, listed.1)
+    let line = before_mark (before_mark (named c).lay_piece-named.ensures listed.0 h (marked own)) (ended c).lay_after-end.ensures h (marks_front colon _ refl) in
+    let e = parts a.text.now a.p a.number a.first (parameters_in a.parameters.now) (key_of c).view-key.ensures.0 (value_of_place c).view-value.ensures.0 in
+    (closed (piece_as e line) c.lay_end.ensures h, listed.1)
 
 pub print_property_spec : {M : Type 1} → statement M
 print_property_spec =

@@ -12,19 +12,19 @@ use Rattle.quoting.proofs.lay_quoted.Statement.{statement}
 use Rattle.quoting.proofs.lay_quoted.Tie as tie
 
 -- what the proofs look back to
-abbrev after_wraps : tie.After-slice-known2 → tie.After-wraps
+abbrev after_wraps : tie.After-slice_known-then-not-wraps-1 → tie.After-wraps
 after_wraps c = c.before.before.before.before.before
 
-abbrev after_lay3 : tie.After-slice-known5 → tie.After-lay3
-after_lay3 c = c.before.before.before.before.before.before.before
+abbrev after_lay3 : tie.After-slice_known-4-1 → tie.After-lay-end
+after_lay3 c = c.before.before.before.before.before.before.before.before
 
-abbrev after_lay2 : tie.After-slice-known5 → tie.After-lay2
+abbrev after_lay2 : tie.After-slice_known-4-1 → tie.After-lay-start
 after_lay2 c = (after_lay3 c).before.before.before.before
 
-abbrev in_else1 : tie.After-slice-known5 → tie.Else1
-in_else1 c = (after_lay2 c).before.before.before
+abbrev in_else1 : tie.After-slice_known-4-1 → tie.Else-not-wraps
+in_else1 c = (after_lay2 c).before.before.before.before
 
-abbrev at_start : tie.After-slice-known5 → tie.Start
+abbrev at_start : tie.After-slice_known-4-1 → tie.Start
 at_start c = (in_else1 c).before.before.before.before
 
 wraps_requires : tie.Need-wraps-requires
@@ -33,42 +33,36 @@ wraps_requires c κs = search rules
 lay_requires : tie.Need-lay-requires
 lay_requires c κs = search rules
 
-same_length : tie.Need-same-length
+same_length : tie.Need-shape_of-out-then-not-wraps
 same_length c = search rules
 
-returns : tie.Need-returns
+returns : tie.Need-returns-then-not-wraps
 returns c =
     let s = (after_wraps c).before.before.before in
     let value = s.args.value.now in
-    let e = stays value (sym (after_wraps c).wraps.ensures ∙ not-true _ c.before.before.before.before.if1.true) in
-    from_as e c.before.before.lay.ensures
+    let e = stays value (sym (after_wraps c).wraps.ensures ∙ not-true _ c.if-not-wraps.true-raw) in
+    from_as e c.lay.ensures
 
-slice_aggregate_lay : tie.Need-slice-aggregate-lay
-slice_aggregate_lay c = search rules
-
-lay_requires_2 : tie.Need-lay-requires-2
+lay_requires_2 : tie.Need-lay-start-requires
 lay_requires_2 c κs = search rules
 
-lay_requires_3 : tie.Need-lay-requires-3
+lay_requires_3 : tie.Need-lay-end-requires
 lay_requires_3 c κs = search rules
 
-slice_aggregate_lay_2 : tie.Need-slice-aggregate-lay-2
-slice_aggregate_lay_2 c = search rules
-
-lay_requires_4 : tie.Need-lay-requires-4
+lay_requires_4 : tie.Need-lay-requires-2
 lay_requires_4 c κs = search rules
 
-same_length_2 : tie.Need-same-length-2
+same_length_2 : tie.Need-shape_of-out
 same_length_2 c = search rules
 
-returns_2 : tie.Need-returns-2
+returns_2 : tie.Need-returns
 returns_2 c =
     let s = at_start c in
     let value = s.args.value.now in
-    let e = in_quotes value (sym (in_else1 c).before.wraps.ensures ∙ not-false _ (in_else1 c).if1.false) in
-    let a = more (start 0 s.args.out.now (quoted value)) (omega arith) (quote ∷ []) (value ++ (quote ∷ [])) e (after_lay2 c).lay2.ensures in
-    let b = more a (omega arith) value (quote ∷ []) refl (after_lay3 c).lay3.ensures in
-    end b c.before.before.lay4.ensures
+    let e = in_quotes value (sym (in_else1 c).wraps.ensures ∙ not-false _ (in_else1 c).if-not-wraps.false-raw) in
+    let a = more (start 0 s.args.out.now (quoted value)) (omega arith) (quote ∷ []) (value ++ (quote ∷ [])) e (after_lay2 c).lay-start.ensures in
+    let b = more a (omega arith) value (quote ∷ []) refl (after_lay3 c).lay-end.ensures in
+    end b c.lay-2.ensures
 
 pub lay_quoted_spec : {M : Type 1} → statement M
 lay_quoted_spec =
@@ -78,10 +72,8 @@ lay_quoted_spec =
     lay_requires
     same_length
     returns
-    slice_aggregate_lay
     lay_requires_2
     lay_requires_3
-    slice_aggregate_lay_2
     lay_requires_4
     same_length_2
     returns_2)

@@ -9,56 +9,56 @@ use Rattle.reading.proofs.fill_components.Statement.{statement}
 use Rattle.reading.proofs.fill_components.Tie as tie
 
 -- what the places of the code see: what is lent, and the limit
-abbrev lent_of : tie.After-slice-known3 → Lent
+abbrev lent_of : tie.After-slice_known-3-1 → Lent
 lent_of c =
-    let a = c.before.before.before.before.args in
+    let a = c.args in
     lent a.text.now a.components.now a.properties.now a.parameters.now
 
-abbrev short_of : tie.After-are-new → tie.Else1
-short_of c = c.before.before.before.before
+abbrev short_of : tie.After-are_new → tie.Else-text-gt-LONGEST
+short_of c = c.before
 
 refuse_requires : tie.Need-refuse-requires
 refuse_requires c κs = search rules
 
-returns : tie.Need-returns
+returns : tie.Need-returns-then-text-gt-LONGEST
 returns c =
     let b = lent_of c.before.before in
-    let e = c.refuse.ensures ∙ text_too_long b c.before.if1.true in
+    let e = c.refuse.ensures ∙ text_too_long b c.if-text-gt-LONGEST.true in
     (e, unfilled b e (rw c.refuse.ensures (λ z. omega arith)))
 
-are_new_requires : tie.Need-are-new-requires
+are_new_requires : tie.Need-are_new-requires
 are_new_requires c κs = search rules
 
-fill_new_requires : tie.Need-fill-new-requires
+fill_new_requires : tie.Need-fill_new-requires
 fill_new_requires c κs =
-    let d = c.before.before.before in
-    ((short_of d.before).if1.false, d.before.are-new.ensures d.if2.true)
+    let d = c in
+    ((short_of d.before.before.before.before).if-text-gt-LONGEST.false, d.are_new.ensures d.if-are_new.true)
 
-same_length : tie.Need-same-length
+same_length : tie.Need-shape_of-components-then-are_new
 same_length c = search rules
 
-same_length_2 : tie.Need-same-length-2
+same_length_2 : tie.Need-shape_of-properties-then-are_new
 same_length_2 c = search rules
 
-same_length_3 : tie.Need-same-length-3
+same_length_3 : tie.Need-shape_of-parameters-then-are_new
 same_length_3 c = search rules
 
-returns_2 : tie.Need-returns-2
+returns_2 : tie.Need-returns-then-are_new
 returns_2 c = search rules
 
-fill_used_requires : tie.Need-fill-used-requires
+fill_used_requires : tie.Need-fill_used-requires
 fill_used_requires c κs = search rules
 
-same_length_4 : tie.Need-same-length-4
+same_length_4 : tie.Need-shape_of-components
 same_length_4 c = search rules
 
-same_length_5 : tie.Need-same-length-5
+same_length_5 : tie.Need-shape_of-properties
 same_length_5 c = search rules
 
-same_length_6 : tie.Need-same-length-6
+same_length_6 : tie.Need-shape_of-parameters
 same_length_6 c = search rules
 
-returns_3 : tie.Need-returns-3
+returns_3 : tie.Need-returns
 returns_3 c = search rules
 
 pub fill_components_spec : {M : Type 1} → statement M

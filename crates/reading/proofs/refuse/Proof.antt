@@ -11,7 +11,7 @@ tell_requires : tie.Need-tell-requires
 tell_requires c κs = search rules
 
 returns : tie.Need-returns
-returns c = c.tell.ensures ∙ rw c.before.new.ensures
+returns c = c.tell.ensures ∙ rw c.new.ensures
 
 pub refuse_spec : {M : Type 1} → statement M
 refuse_spec = tie.close (tie.spec new_requires tell_requires returns)

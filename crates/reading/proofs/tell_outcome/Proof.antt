@@ -9,37 +9,37 @@ use Rattle.reading.proofs.tell_outcome.Statement.{statement}
 use Rattle.reading.proofs.tell_outcome.Tie as tie
 
 -- what the proofs look back to
-abbrev refused : tie.After-number-of → tie.After-outcome
-refused c = c.before.before
+abbrev refused : tie.After-number_of → tie.In-Refused
+refused c = c.before
 
-enum_known_outcome : tie.Need-enum-known-outcome
+enum_known_outcome : tie.Need-enum_known-outcome
 enum_known_outcome c = search rules
 
-number_of_requires : tie.Need-number-of-requires
+number_of_requires : tie.Need-number_of-requires
 number_of_requires c κs = search rules
 
-place_of_requires : tie.Need-place-of-requires
+place_of_requires : tie.Need-place_of-requires
 place_of_requires c κs =
     let o = refused c in
-    let s = o.before.before in
-    subst (λ (x : Outcome). (answered x s.args.size (λ counts. done)).place ≤ longest) o.outcome.given.1 s.pre
+    let s = o in
+    subst (λ (x : Outcome). (answered x s.args.size (λ counts. done)).place ≤ longest) o.in-Refused.is s.requires
 
 refuse_requires : tie.Need-refuse-requires
 refuse_requires c κs = search rules
 
-enum_known_outcome_2 : tie.Need-enum-known-outcome-2
+enum_known_outcome_2 : tie.Need-enum_known-outcome-in-Read-1
 enum_known_outcome_2 c = search rules
 
 tell_requires : tie.Need-tell-requires
 tell_requires c κs = search rules
 
-returns : tie.Need-returns
+returns : tie.Need-returns-in-Refused
 returns c =
     let n = c.before.before in
-    rw ((refused n).outcome.given.1, ← n.number_of_lem.ensures, ← c.before.place_of.ensures) c.refuse.ensures
+    rw ((refused n).in-Refused.is, ← n.number_of.ensures, ← c.place_of.ensures) c.refuse.ensures
 
-returns_2 : tie.Need-returns-2
-returns_2 c = rw c.before.before.outcome2.given.1 c.tell.ensures
+returns_2 : tie.Need-returns-in-Read
+returns_2 c = rw c.in-Read.is c.tell.ensures
 
 pub tell_outcome_spec : {M : Type 1} → statement M
 tell_outcome_spec =

@@ -5,11 +5,11 @@ use Rattle.sifting.proofs.Orders.{keys, values, by_keys, by_absent, other_absent
 use Rattle.sifting.proofs.comes_before.Statement.{statement}
 use Rattle.sifting.proofs.comes_before.Tie as tie
 
-abbrev start_of : tie.After-part-order → tie.Start
+abbrev start_of : tie.After-part_order-keys → tie.Start
 start_of c = c.before.before.before.before
 
 -- what the keys say
-keyed : (c : tie.After-part-order) → c.part-order.result ≡ keys (start_of c).args.text.now (start_of c).args.p (start_of c).args.q
+keyed : (c : tie.After-part_order-keys) → c.part_order-keys.result ≡ keys (start_of c).args.text.now (start_of c).args.p (start_of c).args.q
 keyed c = cc
 
 span_requires : tie.Need-span-requires
@@ -18,23 +18,23 @@ span_requires c κs = search rules
 span_requires_2 : tie.Need-span-requires-2
 span_requires_2 c κs = search rules
 
-part_order_requires : tie.Need-part-order-requires
+part_order_requires : tie.Need-part_order-keys-requires
 part_order_requires c κs = search rules
 
-returns : tie.Need-returns
-returns c = let a = (start_of c.before).args in by_keys a.text.now a.p a.q (keyed c.before) c.if1.true
+returns : tie.Need-returns-then-keys-ne-EQUAL
+returns c = let a = (start_of c.before).args in by_keys a.text.now a.p a.q (keyed c.before) c.if-keys-ne-EQUAL.true
 
-returns_2 : tie.Need-returns-2
+returns_2 : tie.Need-returns-then-p-eq0
 returns_2 c =
-    let k = c.before.before.before in
-    let a = (start_of k.before).args in
-    by_absent a.text.now a.p a.q (keyed k.before) k.if1.false c.before.if2.true
+    let k = c in
+    let a = (start_of k.before.before.before.before).args in
+    by_absent a.text.now a.p a.q (keyed k.before.before.before.before) k.if-keys-ne-EQUAL.false c.if-p-eq0.true
 
-returns_3 : tie.Need-returns-3
+returns_3 : tie.Need-returns-then-q-eq0
 returns_3 c =
-    let k = c.before.before.before.before in
-    let a = (start_of k.before).args in
-    other_absent a.text.now a.p a.q (keyed k.before) k.if1.false c.before.before.if2.false c.if3.true
+    let k = c in
+    let a = (start_of k.before.before.before.before.before).args in
+    other_absent a.text.now a.p a.q (keyed k.before.before.before.before.before) k.if-keys-ne-EQUAL.false c.if-p-eq0.false c.if-q-eq0.true
 
 span_requires_3 : tie.Need-span-requires-3
 span_requires_3 c κs = search rules
@@ -42,16 +42,16 @@ span_requires_3 c κs = search rules
 span_requires_4 : tie.Need-span-requires-4
 span_requires_4 c κs = search rules
 
-part_order_requires_2 : tie.Need-part-order-requires-2
+part_order_requires_2 : tie.Need-part_order-requires
 part_order_requires_2 c κs = search rules
 
-returns_4 : tie.Need-returns-4
+returns_4 : tie.Need-returns
 returns_4 c =
-    let e = c.before.before.before in
-    let k = e.before.before.before.before in
-    let a = (start_of k.before).args in
-    let told : c.part-order2.result ≡ values a.text.now a.p a.q = cc in
-    by_values a.text.now a.p a.q (keyed k.before) k.if1.false e.before.before.if2.false e.if3.false told
+    let e = c in
+    let k = e in
+    let a = (start_of k.before.before.before.before.before.before.before.before).args in
+    let told : c.part_order.result ≡ values a.text.now a.p a.q = cc in
+    by_values a.text.now a.p a.q (keyed k.before.before.before.before.before.before.before.before) k.if-keys-ne-EQUAL.false e.if-p-eq0.false e.if-q-eq0.false told
 
 pub comes_before_spec : {M : Type 1} → statement M
 comes_before_spec =

@@ -9,45 +9,45 @@ use Rattle.sifting.proofs.Tallies.{empty_on}
 use Rattle.sifting.proofs.is_empty.Statement.{statement}
 use Rattle.sifting.proofs.is_empty.Tie as tie
 
-abbrev invariant_loop : tie.invariant-loop
-invariant_loop tally i₀ i = (i ≤ shelf_size) × ((j : ℕ) → j < i → get_or tally j 0 ≡ 0)
+abbrev invariant-loop-i : tie.invariant-loop-i
+invariant-loop-i tally i₀ i = (i ≤ shelf_size) × ((j : ℕ) → j < i → get_or tally j 0 ≡ 0)
 
-abbrev decreases_loop : tie.decreases-loop
-decreases_loop tally i₀ i = shelf_size - i
+abbrev decreases-loop-i : tie.decreases-loop-i
+decreases-loop-i tally i₀ i = shelf_size - i
 
-abbrev At : (tie.invariant-loop → tie.decreases-loop → Type 0) → Type 0
-At place = place invariant_loop decreases_loop
+abbrev At : (tie.invariant-loop-i → tie.decreases-loop-i → Type 0) → Type 0
+At place = place invariant-loop-i decreases-loop-i
 
-loop_holds : tie.Need-loop-init invariant_loop decreases_loop
+loop_holds : tie.Need-loop-i-init invariant-loop-i decreases-loop-i
 loop_holds c = (omega arith, λ j h. absurd (omega (arith, h)))
 
-mul_if1 : tie.Need-overflow-mul-if1 invariant_loop decreases_loop
+mul_if1 : tie.Need-offset_bounds-tally-i invariant-loop-i decreases-loop-i
 mul_if1 c = omega arith
 
-shared_slice_read_if1 : tie.Need-shared-slice-read-if1 invariant_loop decreases_loop
+shared_slice_read_if1 : tie.Need-bounds-tally-i invariant-loop-i decreases-loop-i
 shared_slice_read_if1 c = omega arith
 
-returns : tie.Need-returns invariant_loop decreases_loop
-returns c = let l = c.before.before.before in (λ e. absurd (false≢true e), λ e. (l.loop.i, (omega arith, omega (arith, c.if1.true))))
+returns : tie.Need-returns-then-tally-i-ne0 invariant-loop-i decreases-loop-i
+returns c = let l = c in (λ e. absurd (false≢true e), λ e. (l.loop-i.i, (omega arith, omega (arith, c.if-tally-i-ne0.true))))
 
-add_i : tie.Need-overflow-add-i invariant_loop decreases_loop
+add_i : tie.Need-overflow_add-i invariant-loop-i decreases-loop-i
 add_i c = omega arith
 
-loop_less : tie.Need-loop-smaller invariant_loop decreases_loop
+loop_less : tie.Need-loop-i-smaller invariant-loop-i decreases-loop-i
 loop_less c = omega arith
 
-loop_again : tie.Need-loop-preserved invariant_loop decreases_loop
-loop_again c = let l = c.before.before.before in (omega arith, empty_on l.before.args.tally.now l.loop.i l.loop.invariant.1 c.if1.false)
+loop_again : tie.Need-loop-i-preserved invariant-loop-i decreases-loop-i
+loop_again c = let l = c in (omega arith, empty_on l.args.tally.now l.loop-i.i l.loop-i.invariant.1 c.if-tally-i-ne0.false)
 
-returns_2 : tie.Need-returns-2 invariant_loop decreases_loop
-returns_2 c = (λ e j h. c.before.loop.invariant.1 j (omega (arith, h)), λ e. absurd (false≢true (sym e)))
+returns_2 : tie.Need-returns invariant-loop-i decreases-loop-i
+returns_2 c = (λ e j h. c.loop-i.invariant.1 j (omega (arith, h)), λ e. absurd (false≢true (sym e)))
 
 pub is_empty_spec : {M : Type 1} → statement M
 is_empty_spec =
     tie.close
     (tie.spec
-    invariant_loop
-    decreases_loop
+    invariant-loop-i
+    decreases-loop-i
     loop_holds
     mul_if1
     shared_slice_read_if1

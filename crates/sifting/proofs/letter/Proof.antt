@@ -6,10 +6,10 @@ use Rattle.sifting.proofs.letter.Tie as tie
 lower_requires : tie.Need-lower-requires
 lower_requires c κs = search rules
 
-returns : tie.Need-returns
-returns c = cc (c.lower.ensures, c.before.if1.true)
+returns : tie.Need-returns-then-caseless
+returns c = cc (c.lower.ensures, c.if-caseless.true)
 
-returns_2 : tie.Need-returns-2
+returns_2 : tie.Need-returns
 returns_2 c = search rules
 
 pub letter_spec : {M : Type 1} → statement M

@@ -6,45 +6,45 @@ use lib.ListN.{length}
 use Rattle.trial.proofs.nest_rows.Statement.{statement}
 use Rattle.trial.proofs.nest_rows.Tie as tie
 
-abbrev invariant_loop : tie.invariant-loop
-invariant_loop depth table₀ parent₀ row₀ table parent row = length table ≡ length table₀
+abbrev invariant-loop-row : tie.invariant-loop-row
+invariant-loop-row depth table₀ parent₀ row₀ table parent row = length table ≡ length table₀
 
-abbrev decreases_loop : tie.decreases-loop
-decreases_loop depth table₀ parent₀ row₀ table parent row = depth - row
+abbrev decreases-loop-row : tie.decreases-loop-row
+decreases-loop-row depth table₀ parent₀ row₀ table parent row = depth - row
 
-loop_holds : tie.Need-loop-init invariant_loop decreases_loop
+loop_holds : tie.Need-loop-row-init invariant-loop-row decreases-loop-row
 loop_holds c = search rules
 
-add_t7 : tie.Need-overflow-add-t7 invariant_loop decreases_loop
+add_t7 : tie.Need-overflow_add-c invariant-loop-row decreases-loop-row
 add_t7 c = search rules
 
-cast_put_component : tie.Need-overflow-cast-put-component invariant_loop decreases_loop
+cast_put_component : tie.Need-overflow_cast-row invariant-loop-row decreases-loop-row
 cast_put_component c = search rules
 
-put_component_requires : tie.Need-put-component-requires invariant_loop decreases_loop
+put_component_requires : tie.Need-put_component-requires invariant-loop-row decreases-loop-row
 put_component_requires c κs = search rules
 
-add_row : tie.Need-overflow-add-row invariant_loop decreases_loop
+add_row : tie.Need-overflow_add-row invariant-loop-row decreases-loop-row
 add_row c = search rules
 
-loop_less : tie.Need-loop-smaller invariant_loop decreases_loop
+loop_less : tie.Need-loop-row-smaller invariant-loop-row decreases-loop-row
 loop_less c = search rules
 
-loop_again : tie.Need-loop-preserved invariant_loop decreases_loop
+loop_again : tie.Need-loop-row-preserved invariant-loop-row decreases-loop-row
 loop_again c = search rules
 
-same_length : tie.Need-same-length invariant_loop decreases_loop
+same_length : tie.Need-shape_of-table invariant-loop-row decreases-loop-row
 same_length c = search rules
 
-returns : tie.Need-returns invariant_loop decreases_loop
+returns : tie.Need-returns invariant-loop-row decreases-loop-row
 returns c = search rules
 
 pub nest_rows_spec : {M : Type 1} → statement M
 nest_rows_spec =
     tie.close
     (tie.spec
-    invariant_loop
-    decreases_loop
+    invariant-loop-row
+    decreases-loop-row
     loop_holds
     add_t7
     cast_put_component

@@ -10,23 +10,23 @@ use Rattle.walking.proofs.Lockstep.{stands_there, stands_not}
 use Rattle.twins.proofs.is_own.Statement.{statement}
 use Rattle.twins.proofs.is_own.Tie as tie
 
-property_rows_requires : tie.Need-property-rows-requires
+property_rows_requires : tie.Need-property_rows-requires
 property_rows_requires c κs = search rules
 
-returns : tie.Need-returns
+returns : tie.Need-returns-then-property_rows-property
 returns c =
-    let a = c.before.before.before.args in
+    let a = c.args in
     stands_not property_size property_at (owned_by a.row) a.properties.now a.property (omega arith)
 
-owner_at_requires : tie.Need-owner-at-requires
+owner_at_requires : tie.Need-owner_at-requires
 owner_at_requires c κs = search rules
 
-cast_result : tie.Need-overflow-cast-result
+cast_result : tie.Need-overflow_cast-result
 cast_result c = search rules
 
-returns_2 : tie.Need-returns-2
+returns_2 : tie.Need-returns
 returns_2 c =
-    let a = c.before.before.before.before.args in
+    let a = c.args in
     ap (λ (o : ℕ). eqb o a.row) c.owner_at.ensures
     ∙ stands_there property_size property_at (owned_by a.row) a.properties.now a.property (omega arith)
 

@@ -4,9 +4,9 @@ use Rattle.walking.proofs.Rows.{row_there}
 use Rattle.twins.proofs.side_of.Statement.{statement}
 use Rattle.twins.proofs.side_of.Tie as tie
 
-window_of_requires : tie.Need-window-of-requires
+window_of_requires : tie.Need-window_of-window-requires
 window_of_requires c κs =
-    let s = c.before.before.before in
+    let s = c in
     (row_there s.args.components.now s.args.spot.row s.requires.0, s.requires.1)
 
 returns : tie.Need-returns

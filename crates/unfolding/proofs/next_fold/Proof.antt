@@ -11,94 +11,94 @@ use Rattle.unfolding.proofs.Folds.{on, stop, at_last, to_break_holds}
 use Rattle.unfolding.proofs.next_fold.Statement.{statement}
 use Rattle.unfolding.proofs.next_fold.Tie as tie
 
-abbrev invariant_loop : tie.invariant-loop
-invariant_loop feed from last i₀ i = (i ≤ length feed) × (i + to_fold (drop i feed) ≡ from + to_fold (drop from feed))
+abbrev invariant-loop-i : tie.invariant-loop-i
+invariant-loop-i feed from last i₀ i = (i ≤ length feed) × (i + to_fold (drop i feed) ≡ from + to_fold (drop from feed))
 
-abbrev decreases_loop : tie.decreases-loop
-decreases_loop feed from last i₀ i = length feed - i
+abbrev decreases-loop-i : tie.decreases-loop-i
+decreases-loop-i feed from last i₀ i = length feed - i
 
-abbrev At : (tie.invariant-loop → tie.decreases-loop → Type 0) → Type 0
-At place = place invariant_loop decreases_loop
+abbrev At : (tie.invariant-loop-i → tie.decreases-loop-i → Type 0) → Type 0
+At place = place invariant-loop-i decreases-loop-i
 
 -- what the proofs look back to
-abbrev at_start : At tie.After-find-near → At tie.Start
+abbrev at_start : At tie.After-find_near-end → At tie.Start
 at_start c = c.before.before.before.before.before
 
-abbrev break_of_fold : At tie.Then2 → At tie.After-find-near
+abbrev break_of_fold : At tie.Then-is_fold → At tie.After-find_near-end
 break_of_fold c = c.before.before.before.before.before
 
-abbrev break_of_none : At tie.Else2 → At tie.After-find-near
+abbrev break_of_none : At tie.Else-is_fold → At tie.After-find_near-end
 break_of_none c = c.before.before.before.before.before
 
 -- the first fold from the LF on that was found is the first one
-at_break : (c : At tie.After-find-near) → let s = (at_start c).args in
-    c.find-near.result + to_fold (drop c.find-near.result s.feed.now) ≡ s.from + to_fold (drop s.from s.feed.now)
+at_break : (c : At tie.After-find_near-end) → let s = (at_start c).args in
+    c.find_near-end.result + to_fold (drop c.find_near-end.result s.feed.now) ≡ s.from + to_fold (drop s.from s.feed.now)
 at_break c =
     let s = (at_start c).args in
-    sym (to_break_holds s.feed.now c.before.before.loop.i c.find-near.result c.find-near.ensures) ∙ c.before.before.loop.invariant.1
+    sym (to_break_holds s.feed.now c.loop-i.i c.find_near-end.result c.find_near-end.ensures) ∙ c.loop-i.invariant.1
 
-sub_last : tie.Need-overflow-sub-last invariant_loop decreases_loop
+sub_last : tie.Need-overflow_sub-last invariant-loop-i decreases-loop-i
 sub_last c = omega arith
 
-skip_blocks_requires : tie.Need-skip-blocks-requires invariant_loop decreases_loop
+skip_blocks_requires : tie.Need-skip_blocks-i-requires invariant-loop-i decreases-loop-i
 skip_blocks_requires c κs = omega arith
 
-loop_holds : tie.Need-loop-init invariant_loop decreases_loop
-loop_holds c = c.skip-blocks.ensures
+loop_holds : tie.Need-loop-i-init invariant-loop-i decreases-loop-i
+loop_holds c = c.skip_blocks-i.ensures
 
-find_near_requires : tie.Need-find-near-requires invariant_loop decreases_loop
+find_near_requires : tie.Need-find_near-end-requires invariant-loop-i decreases-loop-i
 find_near_requires c κs = search rules
 
-returns : tie.Need-returns invariant_loop decreases_loop
+returns : tie.Need-returns-then-last-end invariant-loop-i decreases-loop-i
 returns c =
-    let end = c.before.find-near.result in
-    let i = c.before.before.before.loop.i in
+    let end = c.find_near-end.result in
+    let i = c.loop-i.i in
     let feed = (at_start c.before).args.feed.now in
-    let within : end ≤ length feed = omega (arith, c.before.find-near.ensures, runs.within (other lf) (drop i feed), length-drop i feed) in
+    let within : end ≤ length feed = omega (arith, c.find_near-end.ensures, runs.within (other lf) (drop i feed), length-drop i feed) in
     omega (arith, at_break c.before, length-drop end feed, at_last (drop end feed) (omega (arith, length-drop end feed)))
 
-shared_slice_read_is_fold : tie.Need-shared-slice-read-is-fold invariant_loop decreases_loop
+shared_slice_read_is_fold : tie.Need-bounds-feed-end invariant-loop-i decreases-loop-i
 shared_slice_read_is_fold c = omega arith
 
-add_is_fold : tie.Need-overflow-add-is-fold invariant_loop decreases_loop
+add_is_fold : tie.Need-overflow_add-end invariant-loop-i decreases-loop-i
 add_is_fold c = omega arith
 
-shared_slice_read_is_fold_2 : tie.Need-shared-slice-read-is-fold-2 invariant_loop decreases_loop
+shared_slice_read_is_fold_2 : tie.Need-bounds-feed-end-in-loop-i invariant-loop-i decreases-loop-i
 shared_slice_read_is_fold_2 c = omega arith
 
-is_fold_requires : tie.Need-is-fold-requires invariant_loop decreases_loop
+is_fold_requires : tie.Need-is_fold-requires invariant-loop-i decreases-loop-i
 is_fold_requires c κs = search rules
 
-returns_2 : tie.Need-returns-2 invariant_loop decreases_loop
+returns_2 : tie.Need-returns-then-is_fold invariant-loop-i decreases-loop-i
 returns_2 c =
     let l = break_of_fold c in
     let feed = (at_start l).args.feed.now in
-    omega (arith, at_break l, stop feed l.find-near.result (omega arith) (sym c.before.is-fold.ensures ∙ c.if2.true))
+    omega (arith, at_break l, stop feed l.find_near-end.result (omega arith) (sym c.is_fold.ensures ∙ c.if-is_fold.true))
 
-add_i : tie.Need-overflow-add-i invariant_loop decreases_loop
+add_i : tie.Need-overflow_add-i invariant-loop-i decreases-loop-i
 add_i c = omega arith
 
-loop_less : tie.Need-loop-smaller invariant_loop decreases_loop
-loop_less c = let l = break_of_none c in omega (arith, l.find-near.ensures)
+loop_less : tie.Need-loop-i-smaller invariant-loop-i decreases-loop-i
+loop_less c = let l = break_of_none c in omega (arith, l.find_near-end.ensures)
 
-loop_again : tie.Need-loop-preserved invariant_loop decreases_loop
+loop_again : tie.Need-loop-i-preserved invariant-loop-i decreases-loop-i
 loop_again c =
     let l = break_of_none c in
     let feed = (at_start l).args.feed.now in
-    (omega arith, omega (arith, at_break l, on feed l.find-near.result (omega arith) (sym c.before.is-fold.ensures ∙ c.if2.false)))
+    (omega arith, omega (arith, at_break l, on feed l.find_near-end.result (omega arith) (sym c.is_fold.ensures ∙ c.if-is_fold.false)))
 
-returns_3 : tie.Need-returns-3 invariant_loop decreases_loop
+returns_3 : tie.Need-returns invariant-loop-i decreases-loop-i
 returns_3 c =
-    let l = c.before.loop in
-    let feed = c.before.before.before.before.args.feed.now in
+    let l = c.loop-i in
+    let feed = c.args.feed.now in
     omega (arith, length-drop l.i feed, at_last (drop l.i feed) (omega (arith, length-drop l.i feed)))
 
 pub next_fold_spec : {M : Type 1} → statement M
 next_fold_spec =
     tie.close
     (tie.spec
-    invariant_loop
-    decreases_loop
+    invariant-loop-i
+    decreases-loop-i
     sub_last
     skip_blocks_requires
     loop_holds

@@ -5,45 +5,45 @@ use Rattle.unfolding.proofs.Pieces.{at_end, behind, with_cr, without_cr}
 use Rattle.unfolding.proofs.piece_at.Statement.{statement}
 use Rattle.unfolding.proofs.piece_at.Tie as tie
 
-next_fold_requires : tie.Need-next-fold-requires
+next_fold_requires : tie.Need-next_fold-fold-requires
 next_fold_requires c κs = search rules
 
-returns : tie.Need-returns
+returns : tie.Need-returns-then-fold-feed
 returns c =
-    let s = c.before.before.before in
-    at_end s.args.feed.now s.args.i _ s.requires c.before.next-fold.ensures c.if1.true
+    let s = c in
+    at_end s.args.feed.now s.args.i _ s.requires c.next_fold-fold.ensures c.if-fold-feed.true
 
-add_next : tie.Need-overflow-add-next
+add_next : tie.Need-overflow_add-next
 add_next c =
-    let s = c.before.before.before in
-    omega (arith, behind s.args.feed.now s.args.i _ s.requires c.before.next-fold.ensures c.if1.false)
+    let s = c in
+    omega (arith, behind s.args.feed.now s.args.i _ s.requires c.next_fold-fold.ensures c.if-fold-feed.false)
 
-sub_last : tie.Need-overflow-sub-last
+sub_last : tie.Need-overflow_sub-last
 sub_last c = search rules
 
-shared_slice_read_if3 : tie.Need-shared-slice-read-if3
+shared_slice_read_if3 : tie.Need-bounds-feed-last
 shared_slice_read_if3 c =
-    let f = c.before.before.before in
-    let s = f.before.before in
-    omega (arith, behind s.args.feed.now s.args.i _ s.requires f.next-fold.ensures c.before.before.if1.false)
+    let f = c in
+    let s = f in
+    omega (arith, behind s.args.feed.now s.args.i _ s.requires f.next_fold-fold.ensures c.if-fold-feed.false)
 
-returns_2 : tie.Need-returns-2
+returns_2 : tie.Need-returns-then-feed-last-eq13
 returns_2 c =
-    let f = c.before.before.before.before in
-    let s = f.before.before in
-    with_cr s.args.feed.now s.args.i _ s.requires f.next-fold.ensures c.before.before.before.if1.false c.before.before.if2.true c.if3.true
+    let f = c in
+    let s = f in
+    with_cr s.args.feed.now s.args.i _ s.requires f.next_fold-fold.ensures c.if-fold-feed.false c.if-i-fold.true c.if-feed-last-eq13.true
 
-returns_3 : tie.Need-returns-3
+returns_3 : tie.Need-returns-else-feed-last-eq13
 returns_3 c =
-    let f = c.before.before.before.before in
-    let s = f.before.before in
-    without_cr s.args.feed.now s.args.i _ s.requires f.next-fold.ensures c.before.before.before.if1.false (λ k. c.if3.false)
+    let f = c in
+    let s = f in
+    without_cr s.args.feed.now s.args.i _ s.requires f.next_fold-fold.ensures c.if-fold-feed.false (λ k. c.if-feed-last-eq13.false)
 
-returns_4 : tie.Need-returns-4
+returns_4 : tie.Need-returns-else-i-fold
 returns_4 c =
-    let f = c.before.before in
-    let s = f.before.before in
-    without_cr s.args.feed.now s.args.i _ s.requires f.next-fold.ensures c.before.if1.false (λ k q. omega arith)
+    let f = c in
+    let s = f in
+    without_cr s.args.feed.now s.args.i _ s.requires f.next_fold-fold.ensures c.if-fold-feed.false (λ k q. omega arith)
 
 pub piece_at_spec : {M : Type 1} → statement M
 piece_at_spec =

@@ -11,58 +11,58 @@ use Rattle.walking.proofs.Search.{reach, goes_on, ends, runs_out}
 use Rattle.walking.proofs.first_from.Statement.{statement}
 use Rattle.walking.proofs.first_from.Tie as tie
 
-abbrev invariant_loop : tie.invariant-loop
-invariant_loop table from row i₀ i = reach property_size property_at (owned_before row) table i ≡ reach property_size property_at (owned_before row) table from
+abbrev invariant-loop-i : tie.invariant-loop-i
+invariant-loop-i table from row i₀ i = reach property_size property_at (owned_before row) table i ≡ reach property_size property_at (owned_before row) table from
 
-abbrev decreases_loop : tie.decreases-loop
-decreases_loop table from row i₀ i = length table / property_size - i
+abbrev decreases-loop-i : tie.decreases-loop-i
+decreases-loop-i table from row i₀ i = length table / property_size - i
 
-loop_holds : tie.Need-loop-init invariant_loop decreases_loop
+loop_holds : tie.Need-loop-i-init invariant-loop-i decreases-loop-i
 loop_holds c = refl
 
-property_rows_requires : tie.Need-property-rows-requires invariant_loop decreases_loop
+property_rows_requires : tie.Need-property_rows-requires invariant-loop-i decreases-loop-i
 property_rows_requires c κs = search rules
 
-owner_at_requires : tie.Need-owner-at-requires invariant_loop decreases_loop
+owner_at_requires : tie.Need-owner_at-owner-requires invariant-loop-i decreases-loop-i
 owner_at_requires c κs = omega arith
 
-cast_owner : tie.Need-overflow-cast-owner invariant_loop decreases_loop
+cast_owner : tie.Need-overflow_cast-owner invariant-loop-i decreases-loop-i
 cast_owner c = search rules
 
-returns : tie.Need-returns invariant_loop decreases_loop
+returns : tie.Need-returns-then-row-owner invariant-loop-i decreases-loop-i
 returns c =
-    let l = c.before.before.before.before in
-    let a = l.before.before.args in
-    let t = le-ltb (property_at a.properties.now l.loop.i).owner a.row (omega arith) in
-    sym (ends property_size property_at (owned_before a.row) a.properties.now l.loop.i (omega arith) t)
-    ∙ l.loop.invariant
+    let l = c in
+    let a = l.args in
+    let t = le-ltb (property_at a.properties.now l.loop-i.i).owner a.row (omega arith) in
+    sym (ends property_size property_at (owned_before a.row) a.properties.now l.loop-i.i (omega arith) t)
+    ∙ l.loop-i.invariant
 
-add_i : tie.Need-overflow-add-i invariant_loop decreases_loop
+add_i : tie.Need-overflow_add-i invariant-loop-i decreases-loop-i
 add_i c = omega arith
 
-loop_less : tie.Need-loop-smaller invariant_loop decreases_loop
+loop_less : tie.Need-loop-i-smaller invariant-loop-i decreases-loop-i
 loop_less c = omega arith
 
-loop_again : tie.Need-loop-preserved invariant_loop decreases_loop
+loop_again : tie.Need-loop-i-preserved invariant-loop-i decreases-loop-i
 loop_again c =
-    let l = c.before.before.before.before in
-    let a = l.before.before.args in
-    let t = lt-ltb (property_at a.properties.now l.loop.i).owner a.row (omega arith) in
-    goes_on property_size property_at (owned_before a.row) a.properties.now l.loop.i (omega arith) t
-    ∙ l.loop.invariant
+    let l = c in
+    let a = l.args in
+    let t = lt-ltb (property_at a.properties.now l.loop-i.i).owner a.row (omega arith) in
+    goes_on property_size property_at (owned_before a.row) a.properties.now l.loop-i.i (omega arith) t
+    ∙ l.loop-i.invariant
 
-returns_2 : tie.Need-returns-2 invariant_loop decreases_loop
+returns_2 : tie.Need-returns invariant-loop-i decreases-loop-i
 returns_2 c =
-    let l = c.before.before in
-    let a = l.before.before.args in
-    sym (runs_out property_size property_at (owned_before a.row) a.properties.now l.loop.i (omega arith)) ∙ l.loop.invariant
+    let l = c in
+    let a = l.args in
+    sym (runs_out property_size property_at (owned_before a.row) a.properties.now l.loop-i.i (omega arith)) ∙ l.loop-i.invariant
 
 pub first_from_spec : {M : Type 1} → statement M
 first_from_spec =
     tie.close
     (tie.spec
-    invariant_loop
-    decreases_loop
+    invariant-loop-i
+    decreases-loop-i
     loop_holds
     property_rows_requires
     owner_at_requires

@@ -11,58 +11,58 @@ use Rattle.walking.proofs.Search.{reach, goes_on, ends, runs_out}
 use Rattle.walking.proofs.first_held.Statement.{statement}
 use Rattle.walking.proofs.first_held.Tie as tie
 
-abbrev invariant_loop : tie.invariant-loop
-invariant_loop table from row i₀ i = reach parameter_size parameter_at (held_before row) table i ≡ reach parameter_size parameter_at (held_before row) table from
+abbrev invariant-loop-i : tie.invariant-loop-i
+invariant-loop-i table from row i₀ i = reach parameter_size parameter_at (held_before row) table i ≡ reach parameter_size parameter_at (held_before row) table from
 
-abbrev decreases_loop : tie.decreases-loop
-decreases_loop table from row i₀ i = length table / parameter_size - i
+abbrev decreases-loop-i : tie.decreases-loop-i
+decreases-loop-i table from row i₀ i = length table / parameter_size - i
 
-loop_holds : tie.Need-loop-init invariant_loop decreases_loop
+loop_holds : tie.Need-loop-i-init invariant-loop-i decreases-loop-i
 loop_holds c = refl
 
-parameter_rows_requires : tie.Need-parameter-rows-requires invariant_loop decreases_loop
+parameter_rows_requires : tie.Need-parameter_rows-requires invariant-loop-i decreases-loop-i
 parameter_rows_requires c κs = search rules
 
-property_of_requires : tie.Need-property-of-requires invariant_loop decreases_loop
+property_of_requires : tie.Need-property_of-held-requires invariant-loop-i decreases-loop-i
 property_of_requires c κs = omega arith
 
-cast_held : tie.Need-overflow-cast-held invariant_loop decreases_loop
+cast_held : tie.Need-overflow_cast-held invariant-loop-i decreases-loop-i
 cast_held c = search rules
 
-returns : tie.Need-returns invariant_loop decreases_loop
+returns : tie.Need-returns-then-property-held invariant-loop-i decreases-loop-i
 returns c =
-    let l = c.before.before.before.before in
-    let a = l.before.before.args in
-    let t = le-ltb (parameter_at a.parameters.now l.loop.i).property a.property (omega arith) in
-    sym (ends parameter_size parameter_at (held_before a.property) a.parameters.now l.loop.i (omega arith) t)
-    ∙ l.loop.invariant
+    let l = c in
+    let a = l.args in
+    let t = le-ltb (parameter_at a.parameters.now l.loop-i.i).property a.property (omega arith) in
+    sym (ends parameter_size parameter_at (held_before a.property) a.parameters.now l.loop-i.i (omega arith) t)
+    ∙ l.loop-i.invariant
 
-add_i : tie.Need-overflow-add-i invariant_loop decreases_loop
+add_i : tie.Need-overflow_add-i invariant-loop-i decreases-loop-i
 add_i c = omega arith
 
-loop_less : tie.Need-loop-smaller invariant_loop decreases_loop
+loop_less : tie.Need-loop-i-smaller invariant-loop-i decreases-loop-i
 loop_less c = omega arith
 
-loop_again : tie.Need-loop-preserved invariant_loop decreases_loop
+loop_again : tie.Need-loop-i-preserved invariant-loop-i decreases-loop-i
 loop_again c =
-    let l = c.before.before.before.before in
-    let a = l.before.before.args in
-    let t = lt-ltb (parameter_at a.parameters.now l.loop.i).property a.property (omega arith) in
-    goes_on parameter_size parameter_at (held_before a.property) a.parameters.now l.loop.i (omega arith) t
-    ∙ l.loop.invariant
+    let l = c in
+    let a = l.args in
+    let t = lt-ltb (parameter_at a.parameters.now l.loop-i.i).property a.property (omega arith) in
+    goes_on parameter_size parameter_at (held_before a.property) a.parameters.now l.loop-i.i (omega arith) t
+    ∙ l.loop-i.invariant
 
-returns_2 : tie.Need-returns-2 invariant_loop decreases_loop
+returns_2 : tie.Need-returns invariant-loop-i decreases-loop-i
 returns_2 c =
-    let l = c.before.before in
-    let a = l.before.before.args in
-    sym (runs_out parameter_size parameter_at (held_before a.property) a.parameters.now l.loop.i (omega arith)) ∙ l.loop.invariant
+    let l = c in
+    let a = l.args in
+    sym (runs_out parameter_size parameter_at (held_before a.property) a.parameters.now l.loop-i.i (omega arith)) ∙ l.loop-i.invariant
 
 pub first_held_spec : {M : Type 1} → statement M
 first_held_spec =
     tie.close
     (tie.spec
-    invariant_loop
-    decreases_loop
+    invariant-loop-i
+    decreases-loop-i
     loop_holds
     parameter_rows_requires
     property_of_requires

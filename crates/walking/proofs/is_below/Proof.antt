@@ -10,21 +10,21 @@ use Rattle.walking.proofs.Lockstep.{stands_there, stands_not}
 use Rattle.walking.proofs.is_below.Statement.{statement}
 use Rattle.walking.proofs.is_below.Tie as tie
 
-component_rows_requires : tie.Need-component-rows-requires
+component_rows_requires : tie.Need-component_rows-requires
 component_rows_requires c κs = search rules
 
-returns : tie.Need-returns
+returns : tie.Need-returns-then-component_rows-row
 returns c =
-    let a = c.before.before.before.args in
+    let a = c.args in
     stands_not component_size component_at (deeper a.depth) a.components.now a.row (omega arith)
 
-depth_at_requires : tie.Need-depth-at-requires
+depth_at_requires : tie.Need-depth_at-requires
 depth_at_requires c κs = search rules
 
-returns_2 : tie.Need-returns-2
+returns_2 : tie.Need-returns
 returns_2 c =
-    let a = c.before.before.before.before.args in
-    ap (λ (d : ℕ). ltb a.depth d) c.depth-at.ensures
+    let a = c.args in
+    ap (λ (d : ℕ). ltb a.depth d) c.depth_at.ensures
     ∙ stands_there component_size component_at (deeper a.depth) a.components.now a.row (omega arith)
 
 pub is_below_spec : {M : Type 1} → statement M

@@ -20,101 +20,101 @@ use Rattle.walking.proofs.same_size.Tie as tie
 abbrev equal : List ℕ → ℕ → ℕ → ℕ → ℕ → Bool
 equal table one other = level component_size component_at (deeper one) (deeper other) table
 
-abbrev invariant_loop : tie.invariant-loop
-invariant_loop table first second one other i₀ j₀ i j =
+abbrev invariant-loop-first : tie.invariant-loop-first
+invariant-loop-first table first second one other i₀ j₀ i j =
     equal table one other i j ≡ eqb (end_of (components_in table) first - first) (end_of (components_in table) second - second)
 
-abbrev decreases_loop : tie.decreases-loop
-decreases_loop table first second one other i₀ j₀ i j = length table / component_size - i
+abbrev decreases-loop-first : tie.decreases-loop-first
+decreases-loop-first table first second one other i₀ j₀ i j = length table / component_size - i
 
-abbrev At : (tie.invariant-loop → tie.decreases-loop → Type 0) → Type 0
-At R = R invariant_loop decreases_loop
+abbrev At : (tie.invariant-loop-first → tie.decreases-loop-first → Type 0) → Type 0
+At R = R invariant-loop-first decreases-loop-first
 
-abbrev table_of : At tie.At-loop → List ℕ
-table_of l = l.before.before.before.before.args.components.now
+abbrev table_of : At tie.At-loop-first → List ℕ
+table_of l = l.args.components.now
 
-abbrev one_of : At tie.At-loop → ComponentRow → Bool
-one_of l = deeper l.before.before.depth-at.result
+abbrev one_of : At tie.At-loop-first → ComponentRow → Bool
+one_of l = deeper l.depth_at-one.result
 
-abbrev other_of : At tie.At-loop → ComponentRow → Bool
-other_of l = deeper l.before.depth-at2.result
+abbrev other_of : At tie.At-loop-first → ComponentRow → Bool
+other_of l = deeper l.depth_at-other.result
 
 -- a row of the first subtree; and of the other
-one_stands : (c : At tie.Then1) → stands component_size component_at (one_of c.before.before) (table_of c.before.before) c.before.before.loop.i ≡ true
-one_stands c = sym c.before.is_below.ensures ∙ c.if1.true
+one_stands : (c : At tie.In-loop-first) → stands component_size component_at (one_of c.before.before) (table_of c.before.before) c.loop-first.i ≡ true
+one_stands c = sym c.is_below.ensures ∙ c.loop-first-test.true
 
-other_stands : (c : At tie.Else2)
-    → stands component_size component_at (other_of c.before.before.before.before) (table_of c.before.before.before.before) c.before.before.before.before.loop.j ≡ true
-other_stands c = sym c.before.is-below2.ensures ∙ not-false _ c.if2.false
+other_stands : (c : At tie.Else-not-is_below)
+    → stands component_size component_at (other_of c.before.before.before.before) (table_of c.before.before.before.before) c.loop-first.j ≡ true
+other_stands c = sym c.is_below-in-loop-first.ensures ∙ not-false _ c.if-not-is_below.false-raw
 
-one_there : (c : At tie.Then1) → c.before.before.loop.i < length (table_of c.before.before) / component_size
-one_there c = is_there component_size component_at (one_of c.before.before) (table_of c.before.before) c.before.before.loop.i (one_stands c)
+one_there : (c : At tie.In-loop-first) → c.loop-first.i < length (table_of c.before.before) / component_size
+one_there c = is_there component_size component_at (one_of c.before.before) (table_of c.before.before) c.loop-first.i (one_stands c)
 
-depth_at_requires : tie.Need-depth-at-requires invariant_loop decreases_loop
+depth_at_requires : tie.Need-depth_at-one-requires invariant-loop-first decreases-loop-first
 depth_at_requires c κs = search rules
 
-depth_at_requires_2 : tie.Need-depth-at-requires-2 invariant_loop decreases_loop
+depth_at_requires_2 : tie.Need-depth_at-other-requires invariant-loop-first decreases-loop-first
 depth_at_requires_2 c κs = search rules
 
-add_i : tie.Need-overflow-add-i invariant_loop decreases_loop
+add_i : tie.Need-overflow_add-i invariant-loop-first decreases-loop-first
 add_i c = omega arith
 
-add_j : tie.Need-overflow-add-j invariant_loop decreases_loop
+add_j : tie.Need-overflow_add-j invariant-loop-first decreases-loop-first
 add_j c = omega arith
 
-loop_holds : tie.Need-loop-init invariant_loop decreases_loop
+loop_holds : tie.Need-loop-first-init invariant-loop-first decreases-loop-first
 loop_holds c =
-    let a = c.before.before.before.args in
-    let h = c.before.before.before.requires in
-    sizes a.components.now a.first a.second h.0 h.1 c.before.depth-at.ensures c.depth-at2.ensures
+    let a = c.args in
+    let h = c.requires in
+    sizes a.components.now a.first a.second h.0 h.1 c.depth_at-one.ensures c.depth_at-other.ensures
 
-is_below_requires : tie.Need-is-below-requires invariant_loop decreases_loop
+is_below_requires : tie.Need-is_below-requires invariant-loop-first decreases-loop-first
 is_below_requires c κs = search rules
 
-is_below_requires_2 : tie.Need-is-below-requires-2 invariant_loop decreases_loop
+is_below_requires_2 : tie.Need-is_below-requires-in-loop-first invariant-loop-first decreases-loop-first
 is_below_requires_2 c κs = search rules
 
-returns : tie.Need-returns invariant_loop decreases_loop
+returns : tie.Need-returns-then-not-is_below invariant-loop-first decreases-loop-first
 returns c =
     let l = c.before.before.before.before in
-    one_longer component_size component_at (one_of l) (other_of l) (table_of l) l.loop.i l.loop.j (one_stands c.before.before)
-    (sym c.before.is-below2.ensures ∙ not-true _ c.if2.true)
-    ∙ l.loop.invariant
+    one_longer component_size component_at (one_of l) (other_of l) (table_of l) l.loop-first.i l.loop-first.j (one_stands c.before.before)
+    (sym c.is_below-in-loop-first.ensures ∙ not-true _ c.if-not-is_below.true-raw)
+    ∙ l.loop-first.invariant
 
-add_i_2 : tie.Need-overflow-add-i-2 invariant_loop decreases_loop
+add_i_2 : tie.Need-overflow_add-i-in-loop-first invariant-loop-first decreases-loop-first
 add_i_2 c = omega (arith, one_there c.before.before)
 
-add_j_2 : tie.Need-overflow-add-j-2 invariant_loop decreases_loop
+add_j_2 : tie.Need-overflow_add-j-in-loop-first invariant-loop-first decreases-loop-first
 add_j_2 c =
     let l = c.before.before.before.before in
-    omega (arith, is_there component_size component_at (other_of l) (table_of l) l.loop.j (other_stands c))
+    omega (arith, is_there component_size component_at (other_of l) (table_of l) l.loop-first.j (other_stands c))
 
-loop_less : tie.Need-loop-smaller invariant_loop decreases_loop
+loop_less : tie.Need-loop-first-smaller invariant-loop-first decreases-loop-first
 loop_less c = omega (arith, one_there c.before.before)
 
-loop_again : tie.Need-loop-preserved invariant_loop decreases_loop
+loop_again : tie.Need-loop-first-preserved invariant-loop-first decreases-loop-first
 loop_again c =
     let l = c.before.before.before.before in
-    both_on component_size component_at (one_of l) (other_of l) (table_of l) l.loop.i l.loop.j (one_stands c.before.before) (other_stands c)
-    ∙ l.loop.invariant
+    both_on component_size component_at (one_of l) (other_of l) (table_of l) l.loop-first.i l.loop-first.j (one_stands c.before.before) (other_stands c)
+    ∙ l.loop-first.invariant
 
-is_below_requires_3 : tie.Need-is-below-requires-3 invariant_loop decreases_loop
+is_below_requires_3 : tie.Need-is_below-requires-2 invariant-loop-first decreases-loop-first
 is_below_requires_3 c κs = search rules
 
-returns_2 : tie.Need-returns-2 invariant_loop decreases_loop
+returns_2 : tie.Need-returns invariant-loop-first decreases-loop-first
 returns_2 c =
     let l = c.before.before.before in
-    ap not c.is-below3.ensures
-    ∙ one_ends component_size component_at (one_of l) (other_of l) (table_of l) l.loop.i l.loop.j
-    (sym c.before.before.is_below.ensures ∙ c.before.if1.false)
-    ∙ l.loop.invariant
+    ap not c.is_below-2.ensures
+    ∙ one_ends component_size component_at (one_of l) (other_of l) (table_of l) l.loop-first.i l.loop-first.j
+    (sym c.is_below.ensures ∙ c.loop-first-test.false)
+    ∙ l.loop-first.invariant
 
 pub same_size_spec : {M : Type 1} → statement M
 same_size_spec =
     tie.close
     (tie.spec
-    invariant_loop
-    decreases_loop
+    invariant-loop-first
+    decreases-loop-first
     depth_at_requires
     depth_at_requires_2
     add_i

@@ -6,14 +6,14 @@ use Rattle.writable.specs.WritingRule.{verdict}
 use Rattle.writable.proofs.component_verdict.Statement.{statement}
 use Rattle.writable.proofs.component_verdict.Tie as tie
 
-name_fits_requires : tie.Need-name-fits-requires
+name_fits_requires : tie.Need-name_fits-requires
 name_fits_requires c κs = search rules
 
-returns : tie.Need-returns
-returns c = ap (λ (t : Bool). verdict t true) (sym c.if1.true ∙ c.before.name-fits.ensures)
+returns : tie.Need-returns-then-name_fits
+returns c = ap (λ (t : Bool). verdict t true) (sym c.if-name_fits.true ∙ c.name_fits.ensures)
 
-returns_2 : tie.Need-returns-2
-returns_2 c = ap (λ (t : Bool). verdict t true) (sym c.if1.false ∙ c.before.name-fits.ensures)
+returns_2 : tie.Need-returns
+returns_2 c = ap (λ (t : Bool). verdict t true) (sym c.if-name_fits.false ∙ c.name_fits.ensures)
 
 pub component_verdict_spec : {M : Type 1} → statement M
 component_verdict_spec = tie.close (tie.spec name_fits_requires returns returns_2)

@@ -12,24 +12,24 @@ use Rattle.writable.proofs.Laws.{common_clean}
 use Rattle.writable.proofs.is_common.Statement.{statement}
 use Rattle.writable.proofs.is_common.Tie as tie
 
-behind : (c : tie.Else1) → let a = c.before.before.before.args in a.start + a.len + 8 ≤ length a.text.now
+behind : (c : tie.Else-not-eight_behind) → let a = c.args in a.start + a.len + 8 ≤ length a.text.now
 behind c =
-    let a = c.before.before.before.args in
-    leb-true (a.start + a.len + 8) (length a.text.now) (sym c.before.eight-behind.ensures ∙ not-false _ c.if1.false)
+    let a = c.args in
+    leb-true (a.start + a.len + 8) (length a.text.now) (sym c.eight_behind.ensures ∙ not-false _ c.if-not-eight_behind.false-raw)
 
-eight_behind_requires : tie.Need-eight-behind-requires
+eight_behind_requires : tie.Need-eight_behind-requires
 eight_behind_requires c κs = search rules
 
-returns : tie.Need-returns
+returns : tie.Need-returns-then-not-eight_behind
 returns c = λ e. cc
 
-all_of_requires : tie.Need-all-of-requires
+all_of_requires : tie.Need-all_of-requires
 all_of_requires c κs = behind c
 
-returns_2 : tie.Need-returns-2
+returns_2 : tie.Need-returns
 returns_2 c =
     λ e.
-    let a = c.before.before.before.before.args in
+    let a = c.args in
     view_only common clean common_clean a.text.now a.start a.len (omega (arith, behind c.before)) (sym c.all_of.ensures ∙ e)
 
 pub is_common_spec : {M : Type 1} → statement M

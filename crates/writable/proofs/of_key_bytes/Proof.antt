@@ -6,20 +6,20 @@ use Rattle.octets.specs.Runs.{only}
 use Rattle.writable.proofs.of_key_bytes.Statement.{statement}
 use Rattle.writable.proofs.of_key_bytes.Tie as tie
 
-is_capital_requires : tie.Need-is-capital-requires
+is_capital_requires : tie.Need-is_capital-requires
 is_capital_requires c κs = search rules
 
-returns : tie.Need-returns
-returns c = sym (c.before.is-capital.ensures c.if1.true)
+returns : tie.Need-returns-then-is_capital
+returns c = sym (c.is_capital.ensures c.if-is_capital.true)
 
-view_requires : tie.Need-view-requires
+view_requires : tie.Need-view-key-requires
 view_requires c κs = search rules
 
-key_run_requires : tie.Need-key-run-requires
+key_run_requires : tie.Need-key_run-requires
 key_run_requires c κs = search rules
 
-returns_2 : tie.Need-returns-2
-returns_2 c = rw c.key_run.ensures (ap (only key_byte) c.before.view.ensures.0)
+returns_2 : tie.Need-returns
+returns_2 c = rw c.key_run.ensures (ap (only key_byte) c.view-key.ensures.0)
 
 pub of_key_bytes_spec : {M : Type 1} → statement M
 of_key_bytes_spec =

@@ -11,22 +11,22 @@ use Rattle.writable.proofs.Laws.{bad_key, good_key}
 use Rattle.writable.proofs.property_verdict.Statement.{statement}
 use Rattle.writable.proofs.property_verdict.Tie as tie
 
-abbrev value_of_place : tie.After-key-fits → List ℕ
-value_of_place k = let a = k.before.before.args in viewed a.text.now a.row.value_start a.row.value_len
+abbrev value_of_place : tie.After-key_fits → List ℕ
+value_of_place k = let a = k.args in viewed a.text.now a.row.value_start a.row.value_len
 
-key_fits_requires : tie.Need-key-fits-requires
+key_fits_requires : tie.Need-key_fits-requires
 key_fits_requires c κs = search rules
 
-returns : tie.Need-returns
-returns c = let k = c.before in bad_key k.key-fits.ensures (only no_break (value_of_place k)) (is_utf8 (value_of_place k)) c.if1.true
+returns : tie.Need-returns-then-not-key_fits
+returns c = let k = c.before in bad_key k.key_fits.ensures (only no_break (value_of_place k)) (is_utf8 (value_of_place k)) c.if-not-key_fits.true-raw
 
-value_verdict_requires : tie.Need-value-verdict-requires
+value_verdict_requires : tie.Need-value_verdict-requires
 value_verdict_requires c κs = search rules
 
-returns_2 : tie.Need-returns-2
+returns_2 : tie.Need-returns
 returns_2 c =
     let k = c.before.before in
-    c.value-verdict.ensures ∙ good_key k.key-fits.ensures (only no_break (value_of_place k)) (is_utf8 (value_of_place k)) c.before.if1.false
+    c.value_verdict.ensures ∙ good_key k.key_fits.ensures (only no_break (value_of_place k)) (is_utf8 (value_of_place k)) c.if-not-key_fits.false-raw
 
 pub property_verdict_spec : {M : Type 1} → statement M
 property_verdict_spec =

@@ -7,14 +7,14 @@ use Rattle.writable.proofs.quotes_fit.Tie as tie
 lacks_requires : tie.Need-lacks-requires
 lacks_requires c κs = search rules
 
-returns : tie.Need-returns
-returns c = rw (sym c.before.lacks.ensures ∙ c.if1.true)
+returns : tie.Need-returns-then-lacks
+returns c = rw (sym c.lacks.ensures ∙ c.if-lacks.true)
 
-is_list_requires : tie.Need-is-list-requires
+is_list_requires : tie.Need-is_list-requires
 is_list_requires c κs = search rules
 
-returns_2 : tie.Need-returns-2
-returns_2 c = rw (sym c.before.before.lacks.ensures ∙ c.before.if1.false) c.is-list.ensures
+returns_2 : tie.Need-returns
+returns_2 c = rw (sym c.lacks.ensures ∙ c.if-lacks.false) c.is_list.ensures
 
 pub quotes_fit_spec : {M : Type 1} → statement M
 quotes_fit_spec = tie.close (tie.spec lacks_requires returns is_list_requires returns_2)

@@ -14,47 +14,47 @@ use Rattle.writable.proofs.Laws.{fine_value, common_value, has_break_holds, not_
 use Rattle.writable.proofs.value_verdict.Statement.{statement}
 use Rattle.writable.proofs.value_verdict.Tie as tie
 
-abbrev value_of_place : tie.After-view → List ℕ
-value_of_place v = let a = v.before.before.before.before.args in viewed a.text.now a.start a.len
+abbrev value_of_place : tie.After-view-value → List ℕ
+value_of_place v = let a = v.args in viewed a.text.now a.start a.len
 
 -- the view is the value
-seen : (l : tie.After-is-common-text) → l.is-common-text.result ≡ common_text (value_of_place l.before)
-seen l = l.is-common-text.ensures ∙ ap common_text l.before.view.ensures.0
+seen : (l : tie.After-is_common_text) → l.is_common_text.result ≡ common_text (value_of_place l.before)
+seen l = l.is_common_text.ensures ∙ ap common_text l.view-value.ensures.0
 
-abbrev view_of : tie.After-lacks → tie.After-view
+abbrev view_of : tie.After-lacks → tie.After-view-value
 view_of l = l.before.before.before
 
 no_cr : (l : tie.After-lacks) → l.lacks.result ≡ only (other cr) (value_of_place (view_of l))
-no_cr l = l.lacks.ensures ∙ ap (only (other cr)) (view_of l).view.ensures.0
+no_cr l = l.lacks.ensures ∙ ap (only (other cr)) (view_of l).view-value.ensures.0
 
-no_lf : (l : tie.After-lacks2) → l.lacks2.result ≡ only (other lf) (value_of_place (view_of l.before))
-no_lf l = l.lacks2.ensures ∙ ap (only (other lf)) (view_of l.before).view.ensures.0
+no_lf : (l : tie.After-lacks-2) → l.lacks-2.result ≡ only (other lf) (value_of_place (view_of l.before))
+no_lf l = l.lacks-2.ensures ∙ ap (only (other lf)) (view_of l.before).view-value.ensures.0
 
-abbrev lacks_of : tie.After-utf8-run → tie.After-lacks2
+abbrev lacks_of : tie.After-utf8_run → tie.After-lacks-2
 lacks_of u = u.before.before
 
-abbrev view_behind : tie.After-utf8-run → tie.After-view
+abbrev view_behind : tie.After-utf8_run → tie.After-view-value
 view_behind u = view_of (lacks_of u).before
 
-run_is : (u : tie.After-utf8-run) → u.utf8-run.result ≡ utf8_run (value_of_place (view_behind u))
-run_is u = u.utf8-run.ensures ∙ ap utf8_run (view_behind u).view.ensures.0
+run_is : (u : tie.After-utf8_run) → u.utf8_run.result ≡ utf8_run (value_of_place (view_behind u))
+run_is u = u.utf8_run.ensures ∙ ap utf8_run (view_behind u).view-value.ensures.0
 
-is_common_requires : tie.Need-is-common-requires
+is_common_requires : tie.Need-is_common-requires
 is_common_requires c κs = search rules
 
-returns : tie.Need-returns
+returns : tie.Need-returns-then-is_common
 returns c =
-    let a = c.before.before.before.args in
-    fine_value (viewed a.text.now a.start a.len) (c.before.is-common.ensures c.if1.true)
+    let a = c.args in
+    fine_value (viewed a.text.now a.start a.len) (c.is_common.ensures c.if-is_common.true)
 
-view_requires : tie.Need-view-requires
+view_requires : tie.Need-view-value-requires
 view_requires c κs = search rules
 
-is_common_text_requires : tie.Need-is-common-text-requires
+is_common_text_requires : tie.Need-is_common_text-requires
 is_common_text_requires c κs = search rules
 
-returns_2 : tie.Need-returns-2
-returns_2 c = common_value (value_of_place c.before.before) (sym (seen c.before) ∙ c.if2.true)
+returns_2 : tie.Need-returns-then-is_common_text
+returns_2 c = common_value (value_of_place c.before.before) (sym (seen c.before) ∙ c.if-is_common_text.true)
 
 lacks_requires : tie.Need-lacks-requires
 lacks_requires c κs = search rules
@@ -62,25 +62,25 @@ lacks_requires c κs = search rules
 lacks_requires_2 : tie.Need-lacks-requires-2
 lacks_requires_2 c κs = search rules
 
-returns_3 : tie.Need-returns-3
+returns_3 : tie.Need-returns-then-not-lacks
 returns_3 c =
     let l = c.before in
-    has_break_holds (value_of_place (view_of l.before)) (no_cr l.before) (no_lf l) c.if3.true
+    has_break_holds (value_of_place (view_of l.before)) (no_cr l.before) (no_lf l) c.if-not-lacks.true-raw
 
-utf8_run_requires : tie.Need-utf8-run-requires
+utf8_run_requires : tie.Need-utf8_run-requires
 utf8_run_requires c κs = search rules
 
-returns_4 : tie.Need-returns-4
+returns_4 : tie.Need-returns-then-utf8_run-value
 returns_4 c =
     let u = c.before in
     let l = lacks_of u in
-    not_utf8 (value_of_place (view_behind u)) (no_cr l.before) (no_lf l) u.before.if3.false (run_is u) (omega (arith, c.if4.true, ap length (view_behind u).view.ensures.0))
+    not_utf8 (value_of_place (view_behind u)) (no_cr l.before) (no_lf l) u.if-not-lacks.false-raw (run_is u) (omega (arith, c.if-utf8_run-value.true, ap length (view_behind u).view-value.ensures.0))
 
-returns_5 : tie.Need-returns-5
+returns_5 : tie.Need-returns
 returns_5 c =
     let u = c.before in
     let l = lacks_of u in
-    all_utf8 (value_of_place (view_behind u)) (no_cr l.before) (no_lf l) u.before.if3.false (run_is u) (omega (arith, c.if4.false, ap length (view_behind u).view.ensures.0))
+    all_utf8 (value_of_place (view_behind u)) (no_cr l.before) (no_lf l) u.if-not-lacks.false-raw (run_is u) (omega (arith, c.if-utf8_run-value.false, ap length (view_behind u).view-value.ensures.0))
 
 pub value_verdict_spec : {M : Type 1} → statement M
 value_verdict_spec =

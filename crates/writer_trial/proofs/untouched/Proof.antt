@@ -5,39 +5,39 @@ use lib.ListN.{length}
 use Rattle.writer_trial.proofs.untouched.Statement.{statement}
 use Rattle.writer_trial.proofs.untouched.Tie as tie
 
-abbrev invariant_loop : tie.invariant-loop
-invariant_loop out i₀ i = Unit {0}
+abbrev invariant-loop-i : tie.invariant-loop-i
+invariant-loop-i out i₀ i = Unit {0}
 
-abbrev decreases_loop : tie.decreases-loop
-decreases_loop out i₀ i = length out - i
+abbrev decreases-loop-i : tie.decreases-loop-i
+decreases-loop-i out i₀ i = length out - i
 
-loop_holds : tie.Need-loop-init invariant_loop decreases_loop
+loop_holds : tie.Need-loop-i-init invariant-loop-i decreases-loop-i
 loop_holds c = search rules
 
-shared_slice_read_if1 : tie.Need-shared-slice-read-if1 invariant_loop decreases_loop
+shared_slice_read_if1 : tie.Need-bounds-out-i invariant-loop-i decreases-loop-i
 shared_slice_read_if1 c = search rules
 
-returns : tie.Need-returns invariant_loop decreases_loop
+returns : tie.Need-returns-then-out-i-ne-BEFORE invariant-loop-i decreases-loop-i
 returns c = search rules
 
-add_i : tie.Need-overflow-add-i invariant_loop decreases_loop
+add_i : tie.Need-overflow_add-i invariant-loop-i decreases-loop-i
 add_i c = search rules
 
-loop_less : tie.Need-loop-smaller invariant_loop decreases_loop
+loop_less : tie.Need-loop-i-smaller invariant-loop-i decreases-loop-i
 loop_less c = search rules
 
-loop_again : tie.Need-loop-preserved invariant_loop decreases_loop
+loop_again : tie.Need-loop-i-preserved invariant-loop-i decreases-loop-i
 loop_again c = search rules
 
-returns_2 : tie.Need-returns-2 invariant_loop decreases_loop
+returns_2 : tie.Need-returns invariant-loop-i decreases-loop-i
 returns_2 c = search rules
 
 pub untouched_spec : {M : Type 1} → statement M
 untouched_spec =
     tie.close
     (tie.spec
-    invariant_loop
-    decreases_loop
+    invariant-loop-i
+    decreases-loop-i
     loop_holds
     shared_slice_read_if1
     returns

@@ -13,62 +13,62 @@ abbrev tables_of : tie.Start → Lent
 tables_of s = lent s.args.text.now s.args.components.now s.args.properties.now s.args.parameters.now
 
 -- where the length is counted
-abbrev start_at : tie.After-count-rows → tie.Start
+abbrev start_at : tie.After-count_rows-needed → tie.Start
 start_at c = c.before.before.before.before.before.before
 
-abbrev counted_at : tie.After-room-for → tie.After-count-rows
+abbrev counted_at : tie.After-room_for-answer → tie.After-count_rows-needed
 counted_at c = c.before.before
 
-abbrev after_room_for : tie.After-in-order → tie.After-room-for
+abbrev after_room_for : tie.After-in_order-ordered → tie.After-room_for-answer
 after_room_for c = c.before.before.before
 
-count_rows_requires : tie.Need-count-rows-requires
+count_rows_requires : tie.Need-count_rows-needed-requires
 count_rows_requires c κs = search rules
 
 refuse_requires : tie.Need-refuse-requires
 refuse_requires c κs = search rules
 
-returns : tie.Need-returns
+returns : tie.Need-returns-then-needed-gt-LONGEST
 returns c =
     let n = c.before.before in
     let s = start_at n in
     let told = c.refuse.ensures in (
-      when_too_long (length (written_in (tables_of s))) (length s.args.out.now) n.count-rows.ensures c.before.if1.true told,
+      when_too_long (length (written_in (tables_of s))) (length s.args.out.now) n.count_rows-needed.ensures c.if-needed-gt-LONGEST.true told,
       (kept {told = c.refuse.result} refl (written_in (tables_of s)) s.args.out.now (told_no_done told)).1,
     )
 
-room_for_requires : tie.Need-room-for-requires
+room_for_requires : tie.Need-room_for-answer-requires
 room_for_requires c κs = search rules
 
-returns_2 : tie.Need-returns-2
+returns_2 : tie.Need-returns-then-answer-ne-DONE
 returns_2 c =
     let r = c.before.before in
     let n = counted_at r in
     let s = start_at n in (
-      by_room (length (written_in (tables_of s))) (length s.args.out.now) n.count-rows.ensures r.before.if1.false r.room_for.ensures,
-      (kept {told = r.room_for.result} refl (written_in (tables_of s)) s.args.out.now c.if2.true).1,
+      by_room (length (written_in (tables_of s))) (length s.args.out.now) n.count_rows-needed.ensures r.if-needed-gt-LONGEST.false r.room_for-answer.ensures,
+      (kept {told = r.room_for-answer.result} refl (written_in (tables_of s)) s.args.out.now c.if-answer-ne-DONE.true).1,
     )
 
-in_order_requires : tie.Need-in-order-requires
+in_order_requires : tie.Need-in_order-ordered-requires
 in_order_requires c κs = search rules
 
-write_trees_requires : tie.Need-write-trees-requires
+write_trees_requires : tie.Need-write_trees-requires
 write_trees_requires c κs =
     let i = c.before in
     let s = start_at (counted_at (after_room_for i)) in
-    (ruled (tables_of s) s.pre, λ t. sym i.in_order.ensures ∙ t)
+    (ruled (tables_of s) s.requires, λ t. sym i.in_order-ordered.ensures ∙ t)
 
-same_length : tie.Need-same-length
+same_length : tie.Need-shape_of-out
 same_length c = search rules
 
-returns_3 : tie.Need-returns-3
+returns_3 : tie.Need-returns
 returns_3 c =
     let i = c.before.before.before.before in
     let r = after_room_for i in
     let n = counted_at r in
     let s = start_at n in (
-      by_room (length (written_in (tables_of s))) (length s.args.out.now) n.count-rows.ensures r.before.if1.left r.room_for.ensures,
-      (written {told = r.room_for.result} refl (written_in (tables_of s)) s.args.out.now i.before.if2.false c.before.before.write-trees.ensures.is).1,
+      by_room (length (written_in (tables_of s))) (length s.args.out.now) n.count_rows-needed.ensures r.if-needed-gt-LONGEST.false r.room_for-answer.ensures,
+      (written {told = r.room_for-answer.result} refl (written_in (tables_of s)) s.args.out.now i.if-answer-ne-DONE.false c.write_trees.ensures.is).1,
     )
 
 pub write_fitting_spec : {M : Type 1} → statement M

@@ -4,32 +4,32 @@ use Rattle.writing.proofs.Laws.{lent_rest}
 use Rattle.writing.proofs.write_mark.Statement.{statement}
 use Rattle.writing.proofs.write_mark.Tie as tie
 
-abbrev least_of : tie.After-count-on → tie.After-least
+abbrev least_of : tie.After-count_on → tie.After-least-from
 least_of c = c.before.before.before.before.before
 
-least_requires : tie.Need-least-requires
+least_requires : tie.Need-least-from-requires
 least_requires c κs = search rules
 
-sub_print_mark : tie.Need-overflow-sub-print-mark
+sub_print_mark : tie.Need-slice_bounds-print_mark-count
 sub_print_mark c = search rules
 
-part_print_mark_start : tie.Need-slice-bounds-print-mark-start
+part_print_mark_start : tie.Need-slice_bounds-print_mark-start
 part_print_mark_start c = search rules
 
-part_print_mark_end : tie.Need-slice-bounds-print-mark-end
+part_print_mark_end : tie.Need-slice_bounds-print_mark-end
 part_print_mark_end c = search rules
 
-print_mark_requires : tie.Need-print-mark-requires
+print_mark_requires : tie.Need-print_mark-length-requires
 print_mark_requires c κs = search rules
 
-count_on_requires : tie.Need-count-on-requires
+count_on_requires : tie.Need-count_on-requires
 count_on_requires c κs = search rules
 
-same_length : tie.Need-same-length
+same_length : tie.Need-shape_of-out
 same_length c = search rules
 
 returns : tie.Need-returns
-returns c = lent_rest (least_of c).least.ensures c.before.before.before.print-mark.ensures c.count_on.ensures
+returns c = lent_rest (least_of c).least-from.ensures c.print_mark-length.ensures c.count_on.ensures
 
 pub write_mark_spec : {M : Type 1} → statement M
 write_mark_spec =

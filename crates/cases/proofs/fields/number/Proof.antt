@@ -3,45 +3,45 @@ use Rattle.std.proofs.Common.{◌-◌, length, rules}
 use Rattle.cases.proofs.fields.number.Statement.{statement}
 use Rattle.cases.proofs.fields.number.Tie as tie
 
-abbrev invariant_loop : tie.invariant-loop
-invariant_loop field n value₀ left₀ i₀ value left i = Unit {0}
+abbrev invariant-loop-i : tie.invariant-loop-i
+invariant-loop-i field n value₀ left₀ i₀ value left i = Unit {0}
 
-abbrev decreases_loop : tie.decreases-loop
-decreases_loop field n value₀ left₀ i₀ value left i = length field - i
+abbrev decreases-loop-i : tie.decreases-loop-i
+decreases-loop-i field n value₀ left₀ i₀ value left i = length field - i
 
-loop_holds : tie.Need-loop-init invariant_loop decreases_loop
+loop_holds : tie.Need-loop-i-init invariant-loop-i decreases-loop-i
 loop_holds c = search rules
 
-shared_slice_read_b : tie.Need-shared-slice-read-b invariant_loop decreases_loop
+shared_slice_read_b : tie.Need-bounds-field-i invariant-loop-i decreases-loop-i
 shared_slice_read_b c = search rules
 
-returns : tie.Need-returns invariant_loop decreases_loop
+returns : tie.Need-returns-then-left-eq0 invariant-loop-i decreases-loop-i
 returns c = search rules
 
-sub_left : tie.Need-overflow-sub-left invariant_loop decreases_loop
+sub_left : tie.Need-overflow_sub-left invariant-loop-i decreases-loop-i
 sub_left c = search rules
 
-shifted_requires : tie.Need-shifted-requires invariant_loop decreases_loop
+shifted_requires : tie.Need-shifted-value-requires invariant-loop-i decreases-loop-i
 shifted_requires c κs = search rules
 
-add_i : tie.Need-overflow-add-i invariant_loop decreases_loop
+add_i : tie.Need-overflow_add-i invariant-loop-i decreases-loop-i
 add_i c = search rules
 
-loop_less : tie.Need-loop-smaller invariant_loop decreases_loop
+loop_less : tie.Need-loop-i-smaller invariant-loop-i decreases-loop-i
 loop_less c = search rules
 
-loop_again : tie.Need-loop-preserved invariant_loop decreases_loop
+loop_again : tie.Need-loop-i-preserved invariant-loop-i decreases-loop-i
 loop_again c = search rules
 
-returns_2 : tie.Need-returns-2 invariant_loop decreases_loop
+returns_2 : tie.Need-returns invariant-loop-i decreases-loop-i
 returns_2 c = search rules
 
 pub number_spec : {M : Type 1} → statement M
 number_spec =
     tie.close
     (tie.spec
-    invariant_loop
-    decreases_loop
+    invariant-loop-i
+    decreases-loop-i
     loop_holds
     shared_slice_read_b
     returns

@@ -3,48 +3,48 @@ use Rattle.std.proofs.Common.{rules}
 use Rattle.cases.proofs.fields.part.Statement.{statement}
 use Rattle.cases.proofs.fields.part.Tie as tie
 
-abbrev invariant_loop : tie.invariant-loop
-invariant_loop bytes mark n start₀ left₀ start left = Unit {0}
+abbrev invariant-loop-left : tie.invariant-loop-left
+invariant-loop-left bytes mark n start₀ left₀ start left = Unit {0}
 
-abbrev decreases_loop : tie.decreases-loop
-decreases_loop bytes mark n start₀ left₀ start left = left
+abbrev decreases-loop-left : tie.decreases-loop-left
+decreases-loop-left bytes mark n start₀ left₀ start left = left
 
-loop_holds : tie.Need-loop-init invariant_loop decreases_loop
+loop_holds : tie.Need-loop-left-init invariant-loop-left decreases-loop-left
 loop_holds c = search rules
 
-find_near_requires : tie.Need-find-near-requires invariant_loop decreases_loop
+find_near_requires : tie.Need-find_near-requires invariant-loop-left decreases-loop-left
 find_near_requires c κs = search rules
 
-count_on_requires : tie.Need-count-on-requires invariant_loop decreases_loop
+count_on_requires : tie.Need-count_on-start-requires invariant-loop-left decreases-loop-left
 count_on_requires c κs = search rules
 
-sub_left : tie.Need-overflow-sub-left invariant_loop decreases_loop
+sub_left : tie.Need-overflow_sub-left invariant-loop-left decreases-loop-left
 sub_left c = search rules
 
-loop_less : tie.Need-loop-smaller invariant_loop decreases_loop
+loop_less : tie.Need-loop-left-smaller invariant-loop-left decreases-loop-left
 loop_less c = search rules
 
-loop_again : tie.Need-loop-preserved invariant_loop decreases_loop
+loop_again : tie.Need-loop-left-preserved invariant-loop-left decreases-loop-left
 loop_again c = search rules
 
-find_near_requires_2 : tie.Need-find-near-requires-2 invariant_loop decreases_loop
+find_near_requires_2 : tie.Need-find_near-end-requires invariant-loop-left decreases-loop-left
 find_near_requires_2 c κs = search rules
 
-sub_view : tie.Need-overflow-sub-view invariant_loop decreases_loop
+sub_view : tie.Need-overflow_sub-end invariant-loop-left decreases-loop-left
 sub_view c = search rules
 
-view_requires : tie.Need-view-requires invariant_loop decreases_loop
+view_requires : tie.Need-view-requires invariant-loop-left decreases-loop-left
 view_requires c κs = search rules
 
-returns : tie.Need-returns invariant_loop decreases_loop
+returns : tie.Need-returns invariant-loop-left decreases-loop-left
 returns c = search rules
 
 pub part_spec : {M : Type 1} → statement M
 part_spec =
     tie.close
     (tie.spec
-    invariant_loop
-    decreases_loop
+    invariant-loop-left
+    decreases-loop-left
     loop_holds
     find_near_requires
     count_on_requires

@@ -4,7 +4,7 @@ use lib.Count.{trailing_le}
 use Rattle.octets.proofs.eights.first_mark.Statement.{statement}
 use Rattle.octets.proofs.eights.first_mark.Tie as tie
 
-cast_result : tie.Need-overflow-cast-result
+cast_result : tie.Need-overflow_cast-result
 cast_result c = omega (arith, trailing_le 64 c.args.marked)
 
 returns : tie.Need-returns

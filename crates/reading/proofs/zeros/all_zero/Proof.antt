@@ -15,44 +15,44 @@ use Rattle.reading.proofs.NewTables.{none_hit}
 use Rattle.reading.proofs.zeros.all_zero.Statement.{statement}
 use Rattle.reading.proofs.zeros.all_zero.Tie as tie
 
-abbrev invariant_loop : tie.invariant-loop
-invariant_loop table hit₀ i₀ hit i = (i ≤ length table) × (hit ≡ bool_byte (ltb (run is_zero (drop 0 table)) i))
+abbrev invariant-loop-i : tie.invariant-loop-i
+invariant-loop-i table hit₀ i₀ hit i = (i ≤ length table) × (hit ≡ bool_byte (ltb (run is_zero (drop 0 table)) i))
 
-abbrev decreases_loop : tie.decreases-loop
-decreases_loop table hit₀ i₀ hit i = length table - i
+abbrev decreases-loop-i : tie.decreases-loop-i
+decreases-loop-i table hit₀ i₀ hit i = length table - i
 
-loop_holds : tie.Need-loop-init invariant_loop decreases_loop
+loop_holds : tie.Need-loop-i-init invariant-loop-i decreases-loop-i
 loop_holds c = (omega arith, sym (ap bool_byte (le-ltb (run is_zero (drop 0 c.args.table.now)) 0 (omega arith))))
 
-mul_hit : tie.Need-overflow-mul-hit invariant_loop decreases_loop
+mul_hit : tie.Need-offset_bounds-table-i invariant-loop-i decreases-loop-i
 mul_hit c = omega arith
 
-shared_slice_read_hit : tie.Need-shared-slice-read-hit invariant_loop decreases_loop
+shared_slice_read_hit : tie.Need-bounds-table-i invariant-loop-i decreases-loop-i
 shared_slice_read_hit c = omega arith
 
-cast_hit : tie.Need-overflow-cast-hit invariant_loop decreases_loop
+cast_hit : tie.Need-overflow_cast-hit invariant-loop-i decreases-loop-i
 cast_hit c = tt
 
-add_i : tie.Need-overflow-add-i invariant_loop decreases_loop
+add_i : tie.Need-overflow_add-i invariant-loop-i decreases-loop-i
 add_i c = omega arith
 
-loop_less : tie.Need-loop-smaller invariant_loop decreases_loop
+loop_less : tie.Need-loop-i-smaller invariant-loop-i decreases-loop-i
 loop_less c = omega arith
 
-loop_again : tie.Need-loop-preserved invariant_loop decreases_loop
+loop_again : tie.Need-loop-i-preserved invariant-loop-i decreases-loop-i
 loop_again c =
-    let l = c.before.before in
-    let table = l.before.args.table.now in
+    let l = c in
+    let table = l.args.table.now in
     let n = run is_zero (drop 0 table) in
-    let t = not (eqb (get_or table l.loop.i 0) 0) in
-    let at : 0 + l.loop.i ≡ l.loop.i = omega arith in
-    let same : is_zero (get_or table (0 + l.loop.i) 0) ≡ not t = rw at (sym (not-not (is_zero (get_or table l.loop.i 0)))) in
-    (omega arith, ap (λ (h : ℕ). bit_or h (bool_byte t)) l.loop.invariant.1 ∙ onward n l.loop.i t (ends is_zero table 0 l.loop.i t same (omega arith)))
+    let t = not (eqb (get_or table l.loop-i.i 0) 0) in
+    let at : 0 + l.loop-i.i ≡ l.loop-i.i = omega arith in
+    let same : is_zero (get_or table (0 + l.loop-i.i) 0) ≡ not t = rw at (sym (not-not (is_zero (get_or table l.loop-i.i 0)))) in
+    (omega arith, ap (λ (h : ℕ). bit_or h (bool_byte t)) l.loop-i.invariant.1 ∙ onward n l.loop-i.i t (ends is_zero table 0 l.loop-i.i t same (omega arith)))
 
-returns : tie.Need-returns invariant_loop decreases_loop
+returns : tie.Need-returns invariant-loop-i decreases-loop-i
 returns c =
-    let l = c.before.loop in
-    let table = c.before.before.args.table.now in
+    let l = c.loop-i in
+    let table = c.args.table.now in
     let h : l.i ≡ length table = omega arith in
     ap (λ (n : ℕ). eqb n 0) (rw h at l.invariant.1) ∙ none_hit table
 
@@ -60,8 +60,8 @@ pub all_zero_spec : {M : Type 1} → statement M
 all_zero_spec =
     tie.close
     (tie.spec
-    invariant_loop
-    decreases_loop
+    invariant-loop-i
+    decreases-loop-i
     loop_holds
     mul_hit
     shared_slice_read_hit

@@ -1,0 +1,193 @@
+// The calls of `exports` once more, as an archive for C and Rust: a crate is a library or an archive, and a library exports no symbol.
+#![tactic(auto)]
+
+ghost use Rattle.std.specs.Prelude.{◌≡◌, length};
+ghost use Rattle.tables.specs.Lent.{lent};
+ghost use Rattle.reading.specs.Answers.{unfold_answer, measuring_of, text_after};
+ghost use Rattle.reading.specs.Lent.{read_into, left, fill_from, left_filled};
+ghost use Rattle.folding.specs.Strict.{strict};
+ghost use Rattle.folding.specs.Repository.{repository};
+ghost use Rattle.folding.specs.Answers.{strict_line, repository_line, fold_answer, fold_out};
+ghost use Rattle.quoting.specs.Answers.{quote_answer, quote_out};
+ghost use Rattle.escapes.specs.Answers.{text_answer, text_out, value_answer, value_out};
+ghost use Rattle.writing.specs.Answers.{write_answer, write_out};
+ghost use Rattle.twins.specs.Answers.{twins_answer, loose_twins_answer};
+ghost use Rattle.neighbours.specs.Counts.{neighbours_answer};
+ghost use Rattle.exports.specs.Numbers.{reading_numbers, output_numbers, twin_numbers, neighbour_numbers};
+ghost use Rattle.exports.specs.Modes.{mode_of};
+
+// Reads a feed into the text and the three tables. Of a line in a component that is no property the numbers tell what is wrong: 17 ReservedKey,
+// 7 EmptyKey, or 18 StrayByte, with the place of that byte.
+#[unsafe(no_mangle)]
+pub extern "C" fn hawniretem_read(
+    feed: &[u8],
+    text: &mut [u8],
+    components: &mut [u32],
+    properties: &mut [u32],
+    parameters: &mut [u32],
+    numbers: &mut [usize; 6],
+)
+    ensures numbers_after { numbers.new
+        ≡ reading_numbers (read_into feed.now (lent text.old components.old properties.old parameters.old)) }
+    ensures parameters_after { lent text.new components.new properties.new parameters.new
+        ≡ left feed.now (lent text.old components.old properties.old parameters.old) }
+{
+    exports::hawniretem_read(feed, text, components, properties, parameters, numbers)
+}
+
+// Unfolds a feed into the text and tells the rows that it needs, so that as many can be lent. No table is lent, and 10 is never told.
+#[unsafe(no_mangle)]
+pub extern "C" fn hawniretem_measure(feed: &[u8], text: &mut [u8], numbers: &mut [usize; 6])
+    ensures numbers_after { numbers.new ≡ reading_numbers (measuring_of feed.now (length text.old)) }
+    ensures text_after { text.new ≡ text_after feed.now text.old }
+{
+    exports::hawniretem_measure(feed, text, numbers)
+}
+
+// Reads an unfolded text into the three tables: the first bytes that measuring left, as many as it told, and no more.
+#[unsafe(no_mangle)]
+pub extern "C" fn hawniretem_fill(
+    text: &[u8],
+    components: &mut [u32],
+    properties: &mut [u32],
+    parameters: &mut [u32],
+    numbers: &mut [usize; 6],
+)
+    ensures numbers_after { numbers.new
+        ≡ reading_numbers (fill_from (lent text.now components.old properties.old parameters.old)) }
+    ensures parameters_after { lent text.now components.new properties.new parameters.new
+        ≡ left_filled (lent text.now components.old properties.old parameters.old) }
+{
+    exports::hawniretem_fill(text, components, properties, parameters, numbers)
+}
+
+// Unfolds a feed.
+#[unsafe(no_mangle)]
+pub extern "C" fn hawniretem_unfold(feed: &[u8], text: &mut [u8], numbers: &mut [usize; 3])
+    ensures numbers_after { numbers.new ≡ output_numbers (unfold_answer feed.now (length text.old)) }
+    ensures text_after { text.new ≡ text_after feed.now text.old }
+{
+    exports::hawniretem_unfold(feed, text, numbers)
+}
+
+// Folds a line as the repository does.
+#[unsafe(no_mangle)]
+pub extern "C" fn hawniretem_fold_line(line: &[u8], out: &mut [u8], numbers: &mut [usize; 3])
+    ensures numbers_after { numbers.new ≡ output_numbers (fold_answer repository_line repository line.now (length out.old)) }
+    ensures out_after { out.new ≡ fold_out repository_line repository line.now out.old }
+{
+    exports::hawniretem_fold_line(line, out, numbers)
+}
+
+// Folds a line as RFC 5545 asks.
+#[unsafe(no_mangle)]
+pub extern "C" fn hawniretem_fold_strict(line: &[u8], out: &mut [u8], numbers: &mut [usize; 3])
+    ensures numbers_after { numbers.new ≡ output_numbers (fold_answer strict_line strict line.now (length out.old)) }
+    ensures out_after { out.new ≡ fold_out strict_line strict line.now out.old }
+{
+    exports::hawniretem_fold_strict(line, out, numbers)
+}
+
+// Quotes a parameter value where it wants quotes.
+#[unsafe(no_mangle)]
+pub extern "C" fn hawniretem_quote(value: &[u8], out: &mut [u8], numbers: &mut [usize; 3])
+    ensures numbers_after { numbers.new ≡ output_numbers (quote_answer value.now (length out.old)) }
+    ensures out_after { out.new ≡ quote_out value.now out.old }
+{
+    exports::hawniretem_quote(value, out, numbers)
+}
+
+// Reads a value as the text that it stands for.
+#[unsafe(no_mangle)]
+pub extern "C" fn hawniretem_read_text(
+    mode: u32,
+    value: &[u8],
+    out: &mut [u8],
+    numbers: &mut [usize; 3],
+)
+    ensures numbers_after { numbers.new ≡ output_numbers (text_answer (mode_of mode) value.now (length out.old)) }
+    ensures out_after { out.new ≡ text_out (mode_of mode) value.now out.old }
+{
+    exports::hawniretem_read_text(mode, value, out, numbers)
+}
+
+// Writes a text as a value that stands for it.
+#[unsafe(no_mangle)]
+pub extern "C" fn hawniretem_write_text(text: &[u8], out: &mut [u8], numbers: &mut [usize; 3])
+    ensures numbers_after { numbers.new ≡ output_numbers (value_answer text.now (length out.old)) }
+    ensures out_after { out.new ≡ value_out text.now out.old }
+{
+    exports::hawniretem_write_text(text, out, numbers)
+}
+
+// Writes the trees of three tables as a calendar.
+#[unsafe(no_mangle)]
+pub extern "C" fn hawniretem_write(
+    text: &[u8],
+    components: &[u32],
+    properties: &[u32],
+    parameters: &[u32],
+    out: &mut [u8],
+    numbers: &mut [usize; 3],
+)
+    ensures numbers_after { numbers.new
+        ≡ output_numbers (write_answer (lent text.now components.now properties.now parameters.now) (length out.old)) }
+    ensures out_after { out.new
+        ≡ write_out (lent text.now components.now properties.now parameters.now) out.old }
+{
+    exports::hawniretem_write(text, components, properties, parameters, out, numbers)
+}
+
+// Whether two component rows are twins.
+#[unsafe(no_mangle)]
+pub extern "C" fn hawniretem_twins(
+    text: &[u8],
+    components: &[u32],
+    properties: &[u32],
+    parameters: &[u32],
+    first: usize,
+    second: usize,
+    numbers: &mut [usize; 3],
+)
+    ensures { numbers.new
+        ≡ twin_numbers (twins_answer (lent text.now components.now properties.now parameters.now) first second) }
+{
+    exports::hawniretem_twins(
+        text, components, properties, parameters, first, second, numbers,
+    )
+}
+
+// Whether two component rows are loose twins.
+#[unsafe(no_mangle)]
+pub extern "C" fn hawniretem_loose_twins(
+    text: &[u8],
+    components: &[u32],
+    properties: &[u32],
+    parameters: &[u32],
+    first: usize,
+    second: usize,
+    numbers: &mut [usize; 3],
+)
+    ensures { numbers.new
+        ≡ twin_numbers (loose_twins_answer (lent text.now components.now properties.now parameters.now) first second) }
+{
+    exports::hawniretem_loose_twins(
+        text, components, properties, parameters, first, second, numbers,
+    )
+}
+
+// How many children of a component are twins of the sibling directly before them.
+#[unsafe(no_mangle)]
+pub extern "C" fn hawniretem_neighbours(
+    text: &[u8],
+    components: &[u32],
+    properties: &[u32],
+    parameters: &[u32],
+    parent: usize,
+    numbers: &mut [usize; 3],
+)
+    ensures { numbers.new
+        ≡ neighbour_numbers (neighbours_answer (lent text.now components.now properties.now parameters.now) parent) }
+{
+    exports::hawniretem_neighbours(text, components, properties, parameters, parent, numbers)
+}
