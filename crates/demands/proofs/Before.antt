@@ -12,7 +12,7 @@ use Rattle.tables.specs.Lent.{Lent}
 use Rattle.reading.specs.Answers.{refusal, fault_number, fault_place}
 use Rattle.reading.specs.Lent.{room_in, read_into}
 use Rattle.reading.specs.declared.Reading.{Reading}
-use Rattle.demands.specs.LineFaults.{Keyed, key_parameters, Faulty, reserved_key, empty_key, stray_byte_holds, BadLine, bad_line}
+use Rattle.demands.specs.LineFaults.{Keyed, key_parameters, Faulty, reserved_key, empty_key, a_stray_byte, BadLine, bad_line}
 use Rattle.demands.specs.GrammarRefusals.{Rule, Other, Refuses, bad_begin, too_deep, none_open, other_name, outside, no_property, BrokenBy, at_line, unclosed, no_component, Broken}
 use Rattle.demands.specs.Before.{ToldBy, when_too_long, when_no_text_room, no_calendar, when_no_room, all_read, OfThree, Became, became_reserved, became_empty, became_stray, the_same}
 use Rattle.demands.proofs.Cases as cases
@@ -32,7 +32,7 @@ keyed_some (key_parameters {key = key} {parameters = text} k ps) = omega (arith,
 of_fault : {at number place size : ℕ} {line : List ℕ} → Faulty at line number place → Became (refusal 7 at size) (refusal number place size)
 of_fault (reserved_key r) = became_reserved
 of_fault (empty_key h off) = became_empty
-of_fault {at} (stray_byte_holds {front = front} h s) = became_stray {at = at} {place = at + length front} (omega (arith, keyed_some s.keyed))
+of_fault {at} (a_stray_byte {front = front} h s) = became_stray {at = at} {place = at + length front} (omega (arith, keyed_some s.keyed))
 
 -- what is wrong with a line now
 record Wrong (at : ℕ) (line : List ℕ) : Type 0 where

@@ -29,7 +29,7 @@ use Rattle.reading.specs.Lent.{room_in, read_into}
 use Rattle.reading.specs.declared.Reading.{Reading}
 use Rattle.demands.specs.Readable.{Readable}
 use Rattle.demands.specs.Grammar.{line, Lines, no_row, Rows, no_rows, opened_row, with_component, Body, no_line, empty_line, a_property, a_component, Calendar}
-use Rattle.demands.specs.LineFaults.{Stray, StrayAt, Faulty, reserved_key, empty_key, stray_byte_holds}
+use Rattle.demands.specs.LineFaults.{Stray, StrayAt, Faulty, reserved_key, empty_key, a_stray_byte}
 use Rattle.demands.specs.GrammarRefusals.{Begun, in_this, in_another, Refuses, bad_begin, too_deep, none_open, other_name, outside, no_property, Broken, at_line, unclosed, no_component}
 use Rattle.demands.proofs.Cases.{Answered, cases, exactly}
 use Rattle.demands.proofs.Cases.Answered.{when_too_long, when_no_text_room, not_readable, when_no_room, all_read}
@@ -304,7 +304,7 @@ stray_in text at content front i s =
 of_stray : {at number place : ℕ} {line : List ℕ} → Faulty at line number place → number ≡ stray_byte → (front : List ℕ) × Stray front line × (place ≡ at + length front)
 of_stray (reserved_key r) e = absurd (omega arith)
 of_stray (empty_key h off) e = absurd (omega arith)
-of_stray (stray_byte_holds {front = front} h s) e = (front, s, refl)
+of_stray (a_stray_byte {front = front} h s) e = (front, s, refl)
 
 stray_broken : (text : List ℕ) {number place : ℕ} → Broken text number place → number ≡ stray_byte → StrayAt text place
 unfolding All

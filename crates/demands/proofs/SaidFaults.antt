@@ -31,7 +31,7 @@ use Rattle.lines.proofs.Rule.{refused_key, empty_key, is_empty, is_begin, is_end
 use Rattle.reading.specs.Answers.{fault_number, fault_place}
 use Rattle.demands.specs.LineGrammar.{Every, begin, end, AnyCase, as_capital, as_small, Marked}
 use Rattle.demands.specs.LineFaults.{Stops, at_colon, at_semicolon, at_end as at-line-end, ReservedLine, begin_key, end_key, Keyed, key_parameters}
-use Rattle.demands.specs.LineFaults.{Stray, Faulty, reserved_key, empty_key as no_key, stray_byte_holds}
+use Rattle.demands.specs.LineFaults.{Stray, Faulty, reserved_key, empty_key as no_key, a_stray_byte}
 use Rattle.demands.specs.GrammarRefusals.{Other}
 use Rattle.demands.proofs.Scanning.{reserved_in}
 use Rattle.demands.proofs.SaidWords.{every_run, Word, word_found, word_length, word_alone}
@@ -182,7 +182,7 @@ module _ (line : List ℕ) where
             let d = stray line (run key_byte line) (passed_of (drop (run key_byte line) line)) (taken line p) some refl short other in
             let same : StrayByte stop ≡ f = cc in
             let w = stray_said some short other in
-            said_as same (rw (← w.2) (stray_byte_holds (not_free p) w.1))
+            said_as same (rw (← w.2) (a_stray_byte (not_free p) w.1))
 
     -- a line that is read with a fault has it by the grammar
     pub faulty : line_of line ≡ Bad f → Said
@@ -227,7 +227,7 @@ fault_read {line = line} o (reserved_key r) =
     record { fault = ReservedKey; is = by_key_holds o ∙ refused_key line (refused line (said_reserved r)); number_is = refl; place_is = refl }
 fault_read {line = line} o (no_key h off) =
     record { fault = EmptyKey; is = by_key_holds o ∙ empty_key line 0 (taken line (free line h) ∙ ap Run (no_run key_byte line colon off)) refl; number_is = refl; place_is = refl }
-fault_read {at} {line = line} o (stray_byte_holds {front = front} h s) =
+fault_read {at} {line = line} o (a_stray_byte {front = front} h s) =
     record {
       fault = StrayByte (stop line);
       is = by_key_holds o ∙ stray line (run key_byte line) (passed_of (drop (run key_byte line) line)) (taken line (free line h)) some refl short other;

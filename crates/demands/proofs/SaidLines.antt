@@ -36,7 +36,7 @@ use Rattle.lines.proofs.Rule.{begun, refused_key, empty_key, is_empty, is_begin,
 use Rattle.tables.specs.declared.PropertyRow.{PropertyRow}
 use Rattle.tables.specs.declared.ParameterRow.{ParameterRow}
 use Rattle.nesting.specs.Rows.{property_row, parameter_row, parameter_rows}
-use Rattle.demands.specs.LineGrammar.{Every, Some, begin, end, AnyCase, as_capital, as_small, Marked, marked, Opens, Closes, Parameters, Tail, at_once, valued, PropertyLine, property_line_holds}
+use Rattle.demands.specs.LineGrammar.{Every, Some, begin, end, AnyCase, as_capital, as_small, Marked, marked, Opens, Closes, Parameters, Tail, at_once, valued, PropertyLine, a_property_line}
 use Rattle.demands.proofs.Scanning.{reserved_in, no_mark}
 use Rattle.demands.proofs.SaidWords.{every_run, run_every, split, word_found, word_starts, word_length, colon_found, lowered_capital, lowered_small, word_alone, alone_word}
 use Rattle.demands.proofs.SaidParameters.{found_all, ends_off, ends_behind, read_all}
@@ -246,7 +246,7 @@ module _ (start owner number : ℕ) where
   -- a property line of the grammar is read as a property with its rows
   pub property_read : {line : List ℕ} {row : PropertyRow} {rows : List ParameterRow} → PropertyLine start owner number line row rows
       → (p : Property) × ReadAs line row rows p
-  property_read (property_line_holds {key = key} {parameters = text} {tail = tail} {rows = rows} {value = value} {len = len} k b e ps t) =
+  property_read (a_property_line {key = key} {parameters = text} {tail = tail} {rows = rows} {value = value} {len = len} k b e ps t) =
       let back = tail_back start (length key + length text) (start + length key + length text) (omega arith) t in
       let ends : Ends (text ++ tail) = ends_behind ps (tail_ends t) in
       let all = read_all ps (tail_front t) (tail_ends t) in
@@ -312,7 +312,7 @@ module _ (start owner number : ℕ) where
         let f = free_key key (text ++ tail) k.every (ends_behind ps (tail_ends t)) free in
         subst (Says start owner number (key ++ (text ++ tail))) (sym (content key text k tail free off used t))
         (rw (drop-append_seam, add-zero start)
-        (property_line_holds k f.0 f.1 ps (tail_moved start (length key + length text) (start + length key + length text) (omega arith) t)))
+        (a_property_line k f.0 f.1 ps (tail_moved start (length key + length text) (start + length key + length text) (omega arith) t)))
 
     text_says : (tail : List ℕ) → key_byte (get_or (text ++ tail) 0 colon) ≡ false → reserved (key ++ (text ++ tail)) ≡ false
         → params_used (params_of (text ++ tail) 0) ≡ length text → Parameters number tail (start + length key) text (rows_of tail)

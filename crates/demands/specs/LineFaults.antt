@@ -36,7 +36,7 @@ pub record Stray (front line : List ℕ) : Type 0 where
 pub data Faulty (at : ℕ) : List ℕ → ℕ → ℕ → Type 0 where
   reserved_key : {line : List ℕ} → ReservedLine line → Faulty at line 17 at
   empty_key : {byte : ℕ} {rest : List ℕ} → (ReservedLine (byte ∷ rest) → ⊥) → key_byte byte ≡ false → Faulty at (byte ∷ rest) 7 at
-  stray_byte_holds : {front line : List ℕ} → (ReservedLine line → ⊥) → Stray front line → Faulty at line 18 (at + length front)
+  a_stray_byte : {front line : List ℕ} → (ReservedLine line → ⊥) → Stray front line → Faulty at line 18 (at + length front)
 
 -- at this place the text has a byte that is neither `:` nor `;`
 pub record StrayAt (text : List ℕ) (place : ℕ) : Type 0 where

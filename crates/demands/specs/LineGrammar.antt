@@ -110,7 +110,7 @@ pub data Tail (at : ℕ) : List ℕ → ℕ → ℕ → Type 0 where
 
 -- "a key of at least one byte", which is neither BEGIN nor END, "parameters, then" the tail; the line stands at `start`
 pub data PropertyLine (start owner number : ℕ) : List ℕ → PropertyRow → List ParameterRow → Type 0 where
-  property_line_holds : {key parameters tail : List ℕ} {rows : List ParameterRow} {value len : ℕ}
+  a_property_line : {key parameters tail : List ℕ} {rows : List ParameterRow} {value len : ℕ}
       → Some key_byte key → (AnyCase begin key → ⊥) → (AnyCase end key → ⊥)
       → Parameters number tail (start + length key) parameters rows → Tail (start + length key + length parameters) tail value len
       → PropertyLine start owner number (key ++ (parameters ++ tail))

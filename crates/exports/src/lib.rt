@@ -49,7 +49,7 @@ pub extern "C" fn hawniretem_read(
 )
     ensures numbers_after { numbers.new
         ≡ reading_numbers (read_into feed.now (lent text.old components.old properties.old parameters.old)) }
-    ensures parameters_after { lent text.new components.new properties.new parameters.new
+    ensures lent_after { lent text.new components.new properties.new parameters.new
         ≡ left feed.now (lent text.old components.old properties.old parameters.old) }
 {
     tell_reading(
@@ -78,7 +78,7 @@ pub extern "C" fn hawniretem_fill(
 )
     ensures numbers_after { numbers.new
         ≡ reading_numbers (fill_from (lent text.now components.old properties.old parameters.old)) }
-    ensures parameters_after { lent text.now components.new properties.new parameters.new
+    ensures tables_after { lent text.now components.new properties.new parameters.new
         ≡ left_filled (lent text.now components.old properties.old parameters.old) }
 {
     tell_reading(

@@ -29,7 +29,7 @@ pub extern "C" fn hawniretem_read(
 )
     ensures numbers_after { numbers.new
         ≡ reading_numbers (read_into feed.now (lent text.old components.old properties.old parameters.old)) }
-    ensures parameters_after { lent text.new components.new properties.new parameters.new
+    ensures lent_after { lent text.new components.new properties.new parameters.new
         ≡ left feed.now (lent text.old components.old properties.old parameters.old) }
 {
     exports::hawniretem_read(feed, text, components, properties, parameters, numbers)
@@ -55,7 +55,7 @@ pub extern "C" fn hawniretem_fill(
 )
     ensures numbers_after { numbers.new
         ≡ reading_numbers (fill_from (lent text.now components.old properties.old parameters.old)) }
-    ensures parameters_after { lent text.now components.new properties.new parameters.new
+    ensures tables_after { lent text.now components.new properties.new parameters.new
         ≡ left_filled (lent text.now components.old properties.old parameters.old) }
 {
     exports::hawniretem_fill(text, components, properties, parameters, numbers)

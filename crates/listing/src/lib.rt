@@ -220,7 +220,7 @@ fn read_in_turn(
     parameters: &mut [u32],
 ) -> Reading
     ensures value { result ≡ read_into feed.now (lent text.old components.old properties.old parameters.old) }
-    ensures parameters_after { lent text.new components.new properties.new parameters.new
+    ensures lent_after { lent text.new components.new properties.new parameters.new
         ≡ left feed.now (lent text.old components.old properties.old parameters.old) }
 {
     let measured = reading::measure_components(feed, text);
@@ -242,7 +242,7 @@ pub fn list(
 ) -> usize
     ensures lays { Lays 0 (listing feed.now (lent text.old components.old properties.old parameters.old))
         out.old out.new result }
-    ensures parameters_after { lent text.new components.new properties.new parameters.new
+    ensures lent_after { lent text.new components.new properties.new parameters.new
         ≡ left_listed feed.now (lent text.old components.old properties.old parameters.old) }
 {
     if LONGEST < feed.len() {

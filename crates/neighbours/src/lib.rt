@@ -103,8 +103,8 @@ fn compare(
     order: Order,
 ) -> Pair
     requires ruled { Ruled (lent text.now components.now properties.now parameters.now) }
-    requires arrived { Arrived (lent text.now components.now properties.now parameters.now) before.row order.ordered before.cursor }
-    requires arrived_2 { Arrived (lent text.now components.now properties.now parameters.now) next.row order.ordered next.cursor }
+    requires before_arrived { Arrived (lent text.now components.now properties.now parameters.now) before.row order.ordered before.cursor }
+    requires next_arrived { Arrived (lent text.now components.now properties.now parameters.now) next.row order.ordered next.cursor }
     ensures { (result.twins
         ≡ pick (twin_rows (lent text.now components.now properties.now parameters.now) before.row next.row) 1 0)
         × Ordered (lent text.now components.now properties.now parameters.now) result.order.ordered }

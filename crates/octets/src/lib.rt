@@ -344,8 +344,8 @@ pub fn room_for(needed: usize, room: usize) -> Output
 // that differ, or where fewer than eight are left.
 fn same_eights(a: &[u8], b: &[u8]) -> usize
     requires { length a.now ≡ length b.now }
-    ensures upper_bound { (result ≤ length a.now) × (take result a.now ≡ take result b.now) }
-    ensures b_value { result + 8 ≤ length a.now → same_bytes (drop result a.now) (drop result b.now) ≡ false }
+    ensures same_so_far { (result ≤ length a.now) × (take result a.now ≡ take result b.now) }
+    ensures next_differ { result + 8 ≤ length a.now → same_bytes (drop result a.now) (drop result b.now) ≡ false }
 {
     let mut i: usize = 0;
     while 8 <= a.len() - i {
@@ -486,8 +486,8 @@ pub fn property_key(line: &[u8]) -> Key
 
 // The part of a text, or the empty part at its front where start and len reach outside.
 pub fn view(text: &[u8], start: usize, len: usize) -> &[u8]
-    ensures result_value { result.now ≡ viewed text.now start len }
-    ensures ref_ptr_value { result.ref_ptr ≡ bytes_on (viewed_at text.now start len) text.entry.ref_ptr }
+    ensures bytes_value { result.now ≡ viewed text.now start len }
+    ensures place_value { result.ref_ptr ≡ bytes_on (viewed_at text.now start len) text.entry.ref_ptr }
 {
     if text.len() < start {
         return &text[0..0];

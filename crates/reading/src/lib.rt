@@ -213,7 +213,7 @@ fn fill_used(
 ) -> Reading
     requires { length text.now ≤ longest }
     ensures value { result ≡ fill_from (lent text.now components.old properties.old parameters.old) }
-    ensures parameters_after { lent text.now components.new properties.new parameters.new
+    ensures tables_after { lent text.now components.new properties.new parameters.new
         ≡ left_filled (lent text.now components.old properties.old parameters.old) }
 {
     let told = ask_room(measure_text(text), components, properties, parameters);
@@ -232,9 +232,9 @@ fn fill_new(
     parameters: &mut [u32],
 ) -> Reading
     requires text_len_bound { length text.now ≤ longest }
-    requires components_value { (only is_zero components.old ≡ true) × (only is_zero properties.old ≡ true) × (only is_zero parameters.old ≡ true) }
+    requires all_zero { (only is_zero components.old ≡ true) × (only is_zero properties.old ≡ true) × (only is_zero parameters.old ≡ true) }
     ensures value { result ≡ fill_from (lent text.now components.old properties.old parameters.old) }
-    ensures parameters_after { lent text.now components.new properties.new parameters.new
+    ensures tables_after { lent text.now components.new properties.new parameters.new
         ≡ left_filled (lent text.now components.old properties.old parameters.old) }
 {
     let outcome = nesting::pass(text, components, properties, parameters);
@@ -290,7 +290,7 @@ pub fn fill_components(
     parameters: &mut [u32],
 ) -> Reading
     ensures value { result ≡ fill_from (lent text.now components.old properties.old parameters.old) }
-    ensures parameters_after { lent text.now components.new properties.new parameters.new
+    ensures tables_after { lent text.now components.new properties.new parameters.new
         ≡ left_filled (lent text.now components.old properties.old parameters.old) }
 {
     if octets::LONGEST < text.len() {
@@ -311,7 +311,7 @@ pub fn read_components(
     parameters: &mut [u32],
 ) -> Reading
     ensures value { result ≡ read_into feed.now (lent text.old components.old properties.old parameters.old) }
-    ensures parameters_after { lent text.new components.new properties.new parameters.new
+    ensures lent_after { lent text.new components.new properties.new parameters.new
         ≡ left feed.now (lent text.old components.old properties.old parameters.old) }
 {
     let unfolded = unfold_feed(feed, text);

@@ -112,7 +112,7 @@ fn row_before(text: &[u8], parameters: &[u32], p: usize, q: usize) -> bool
 // Where a row is looked for among the n on the shelf: behind those that stand before it.
 fn place_of(text: &[u8], parameters: &[u32], shelf: &[usize], n: usize, row: usize) -> usize
     requires { (row < length parameters.now / parameter_size) × Stocked parameters.now shelf.now n }
-    ensures upper_bound { result ≤ n }
+    ensures within { result ≤ n }
     ensures value { result ≡ looked_for text.now parameters.now shelf.now n (parameter_in text.now parameters.now row) }
 {
     let mut lo: usize = 0;
@@ -212,7 +212,7 @@ fn count_up(
     count: usize,
 )
     requires count_in_bounds { (first + count ≤ length parameters.now / parameter_size) × Stocked parameters.now shelf.now n }
-    requires tally_len { (length tally.old ≡ shelf_size) × Empty tally.old }
+    requires tally_empty { (length tally.old ≡ shelf_size) × Empty tally.old }
     ensures { Counted text.now parameters.now shelf.now n tally.new first count }
 {
     let mut i: usize = 0;
@@ -238,7 +238,7 @@ fn count_down(
 ) -> bool
     requires count_in_bounds { (b + count ≤ length parameters.now / parameter_size) × Stocked parameters.now shelf.now n × (length tally.old ≡ shelf_size) }
     requires counted { Counted text.now parameters.now shelf.now n tally.old a count }
-    ensures count_value { result ≡ false → same_runs text.now parameters.now a b count ≡ false }
+    ensures unlike { result ≡ false → same_runs text.now parameters.now a b count ≡ false }
     ensures reduced { result ≡ true → Reduced text.now parameters.now shelf.now n tally.new a b count count }
 {
     let mut i: usize = 0;
@@ -283,8 +283,8 @@ fn are_even(
     count: usize,
 ) -> bool
     requires count_in_bounds { (a + count ≤ length parameters.now / parameter_size) × (b + count ≤ length parameters.now / parameter_size) × Stocked parameters.now shelf.now n }
-    requires tally_len { (length tally.old ≡ shelf_size) × Empty tally.old }
-    ensures count_value { result ≡ false → same_runs text.now parameters.now a b count ≡ false }
+    requires tally_empty { (length tally.old ≡ shelf_size) × Empty tally.old }
+    ensures unlike { result ≡ false → same_runs text.now parameters.now a b count ≡ false }
     ensures empty { result ≡ true → Empty tally.new × Level text.now parameters.now shelf.now n a b count }
 {
     count_up(text, parameters, shelf, n, tally, a, count);
@@ -308,11 +308,11 @@ fn settle(
     next: usize,
 ) -> bool
     requires count_in_bounds { (a + count ≤ length parameters.now / parameter_size) × (b + count ≤ length parameters.now / parameter_size) }
-    requires from_le_next { (from ≤ next) × (next ≤ count) × Stocked parameters.now shelf.now n }
+    requires next_in_bounds { (from ≤ next) × (next ≤ count) × Stocked parameters.now shelf.now n }
     requires level { Level text.now parameters.now shelf.now n a b count }
     requires settled_to { SettledTo text.now parameters.now a b count from }
-    ensures count_value { result ≡ false → same_runs text.now parameters.now a b count ≡ false }
-    ensures settled_to_2 { result ≡ true → SettledTo text.now parameters.now a b count next }
+    ensures unlike { result ≡ false → same_runs text.now parameters.now a b count ≡ false }
+    ensures settled_on { result ≡ true → SettledTo text.now parameters.now a b count next }
 {
     let mut k = from;
     while k < next {

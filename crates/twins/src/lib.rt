@@ -61,7 +61,7 @@ fn side_of(
 ) -> Side
     requires row_in_bounds { spot.row < length (components_in components.now) }
     requires reached { Reached (properties_in properties.now) (parameters_in parameters.now) spot.cursor spot.row }
-    requires properties_value { ordered ≡ true → in_order (components_in components.now) (properties_in properties.now) ≡ true }
+    requires in_order_if_told { ordered ≡ true → in_order (components_in components.now) (properties_in properties.now) ≡ true }
     ensures { (result.row ≡ spot.row) × Holds (components_in components.now) (properties_in properties.now) (parameters_in parameters.now) spot.row result.window }
 {
     let row = spot.row;
@@ -100,8 +100,8 @@ fn same_head(
     ordered: bool,
 ) -> Match
     requires ruled { Ruled (lent text.now components.now properties.now parameters.now) }
-    requires arrived { Arrived (lent text.now components.now properties.now parameters.now) first.row ordered first.cursor }
-    requires arrived_2 { Arrived (lent text.now components.now properties.now parameters.now) second.row ordered second.cursor }
+    requires first_arrived { Arrived (lent text.now components.now properties.now parameters.now) first.row ordered first.cursor }
+    requires second_arrived { Arrived (lent text.now components.now properties.now parameters.now) second.row ordered second.cursor }
     ensures { Headed (values_by values) (lent text.now components.now properties.now parameters.now) first.row second.row result }
 {
     let one = tables::component_at(components, first.row);
@@ -135,8 +135,8 @@ fn same_component(
     ordered: bool,
 ) -> Match
     requires ruled { Ruled (lent text.now components.now properties.now parameters.now) }
-    requires arrived { Arrived (lent text.now components.now properties.now parameters.now) first.row ordered first.cursor }
-    requires arrived_2 { Arrived (lent text.now components.now properties.now parameters.now) second.row ordered second.cursor }
+    requires first_arrived { Arrived (lent text.now components.now properties.now parameters.now) first.row ordered first.cursor }
+    requires second_arrived { Arrived (lent text.now components.now properties.now parameters.now) second.row ordered second.cursor }
     ensures { Matched (values_by values) (lent text.now components.now properties.now parameters.now) level first.row second.row result }
 {
     let head = same_head(
@@ -195,8 +195,8 @@ pub fn same_front(
     first: Spot,
     second: Spot,
 ) -> bool
-    requires property_bound { first.cursor.property ≤ window_first (properties_in properties.now) first.row }
-    requires property_bound_2 { second.cursor.property ≤ window_first (properties_in properties.now) second.row }
+    requires first_bound { first.cursor.property ≤ window_first (properties_in properties.now) first.row }
+    requires second_bound { second.cursor.property ≤ window_first (properties_in properties.now) second.row }
     ensures { result ≡ false → (parameters : List ParameterRow) → alike (same_property_by (values_by values) same_parameters)
         (properties_of text.now (properties_in properties.now) parameters first.row)
         (properties_of text.now (properties_in properties.now) parameters second.row)
@@ -228,8 +228,8 @@ pub fn same_trees(
     ordered: bool,
 ) -> bool
     requires ruled { Ruled (lent text.now components.now properties.now parameters.now) }
-    requires arrived { Arrived (lent text.now components.now properties.now parameters.now) first.row ordered first.cursor }
-    requires arrived_2 { Arrived (lent text.now components.now properties.now parameters.now) second.row ordered second.cursor }
+    requires first_arrived { Arrived (lent text.now components.now properties.now parameters.now) first.row ordered first.cursor }
+    requires second_arrived { Arrived (lent text.now components.now properties.now parameters.now) second.row ordered second.cursor }
     ensures { result ≡ rows_alike_by (values_by values) (lent text.now components.now properties.now parameters.now) first.row second.row }
 {
     if !same_front(values, text, properties, first, second) {

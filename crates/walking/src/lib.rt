@@ -162,7 +162,7 @@ pub fn window_of(
 ) -> Window
     requires row_in_bounds { row < length components.now / component_size }
     requires reached { Reached (properties_in properties.now) (parameters_in parameters.now) cursor row }
-    requires properties_value { ordered ≡ true → in_order (components_in components.now) (properties_in properties.now) ≡ true }
+    requires in_order_if_told { ordered ≡ true → in_order (components_in components.now) (properties_in properties.now) ≡ true }
     ensures { Holds (components_in components.now) (properties_in properties.now) (parameters_in parameters.now) row result }
 {
     let first = first_from(properties, cursor.property, row);
