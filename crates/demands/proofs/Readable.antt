@@ -9,7 +9,7 @@ use borrow.Author.Tests.{le-leb}
 use Rattle.octets.specs.Answers.{done}
 use Rattle.octets.specs.Laid.{laid}
 use Rattle.octets.proofs.Laid.{whole}
-use Rattle.octets.specs.Runs.{run as byteRun}
+use Rattle.octets.specs.Runs.{run as byte_run}
 use Rattle.octets.specs.Words.{starts_word, same_bytes}
 use Rattle.unfolding.specs.Unfold.{unfolded, unfolded_after}
 use Rattle.parameters.specs.Parameter.{front_of}
@@ -91,5 +91,5 @@ pub some_readable : Readable feed_of_three
       properties = record { owner = 0; key_start = 8; key_len = 1; value_start = 10; value_len = 1 } ∷ [];
       parameters = [];
     })
-unfolding unfolded_after lines_after byteRun starts_word same_bytes line_of front_of params_after params_used read_lines
+unfolding unfolded_after lines_after byte_run starts_word same_bytes line_of front_of params_after params_used read_lines
 some_readable = record { short = omega arith; reads = refl; closed = refl; some = omega arith }

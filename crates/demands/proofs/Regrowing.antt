@@ -17,7 +17,7 @@ use Rattle.demands.specs.Returning.{Shallow}
 use Rattle.demands.proofs.Standing.{Apart, fewer, some, turned, clear_append, skipped, Standing, all_standing, first_of, later_of, second_of, third_of, gathered}
 use Rattle.demands.proofs.Standing.Apart.{before, behind}
 use Rattle.demands.proofs.Standing.Clear.{clear, other}
-use Rattle.demands.proofs.Shown.{parent_of, owner_of, property_of_holds, Parameters, Properties, Rows}
+use Rattle.demands.proofs.Shown.{parent_of, owner_of, property_row_of, Parameters, Properties, Rows}
 use Rattle.demands.proofs.Shown.{parameters_clear, owners_clear, numbers_clear, parents_clear, properties_clear, held_clear}
 use Rattle.demands.proofs.Shown.Parameters.{no_parameter, parameter}
 use Rattle.demands.proofs.Shown.Properties.{no_property, property}
@@ -29,10 +29,10 @@ module _ (text : List ℕ) where
 
   -- the rows of a property make its parameters
   parameters_back : (number row : ℕ) {xs : List Parameter} {qs : List ParameterRow} → Parameters text number xs qs
-      → gather property_of_holds put_parameter [] number row qs ≡ xs
-  parameters_back number row no_parameter = over property_of_holds put_parameter [] number row [] refl
+      → gather property_row_of put_parameter [] number row qs ≡ xs
+  parameters_back number row no_parameter = over property_row_of put_parameter [] number row [] refl
   parameters_back number row (parameter q {xs} {qs} e f) =
-      taken property_of_holds put_parameter [] number row (q ∷ qs) qs q refl e ∙ rw (parameters_back number (row + 1) f)
+      taken property_row_of put_parameter [] number row (q ∷ qs) qs q refl e ∙ rw (parameters_back number (row + 1) f)
 
   module _ (parameters : List ParameterRow) where
     abbrev put_property : ℕ → PropertyRow → List Property → List Property
@@ -40,16 +40,16 @@ module _ (text : List ℕ) where
 
     -- the rows of a component make its properties
     properties_back : {owner number at : ℕ} {xs : List Property} {ps : List PropertyRow} {qs : List ParameterRow}
-        → Properties text owner number xs ps qs → Standing property_of_holds parameters at qs number (number + length ps)
+        → Properties text owner number xs ps qs → Standing property_row_of parameters at qs number (number + length ps)
         → gather owner_of put_property [] owner number ps ≡ xs
     properties_back {owner} {number} no_property s = over owner_of put_property [] owner number [] refl
     properties_back {owner} {number} {at} (property p {x} {own} {qs} {xs} {ps} e y o f) s =
-        let mine : Standing property_of_holds parameters at own number (number + 1) =
-        first_of property_of_holds (omega arith) (omega arith) s (numbers_clear (behind (omega arith)) f) in
-        let theirs : Standing property_of_holds parameters (at + length own) qs (number + 1) (number + 1 + length ps) =
-        later_of property_of_holds (omega arith) (omega arith) s refl (parameters_clear (before (omega arith)) o) in
+        let mine : Standing property_row_of parameters at own number (number + 1) =
+        first_of property_row_of (omega arith) (omega arith) s (numbers_clear (behind (omega arith)) f) in
+        let theirs : Standing property_row_of parameters (at + length own) qs (number + 1) (number + 1 + length ps) =
+        later_of property_row_of (omega arith) (omega arith) s refl (parameters_clear (before (omega arith)) o) in
         taken owner_of put_property [] owner number (p ∷ ps) ps p refl e
-        ∙ rw (gathered property_of_holds put_parameter [] number (omega arith) (omega arith) mine, parameters_back number at o, y, properties_back f theirs)
+        ∙ rw (gathered property_row_of put_parameter [] number (omega arith) (omega arith) mine, parameters_back number at o, y, properties_back f theirs)
 
   -- a list of trees that may not nest at all is empty
   shallow_none : (ts : Trees) → Shallow zero ts → ts ≡ none
@@ -73,7 +73,7 @@ module _ (text : List ℕ) where
       apart : Apart parent (parent + 1) row (row + length cs)
       in_components : Standing parent_of components row cs low (row + length cs)
       in_properties : Standing owner_of properties number ps row (row + length cs)
-      in_parameters : Standing property_of_holds parameters at qs number (number + length ps)
+      in_parameters : Standing property_row_of parameters at qs number (number + length ps)
 
     module _ {parent row number at low : ℕ} {c : ComponentRow} {xs : List Property} {children rest : Trees}
         {cs ds : List ComponentRow} {ps ps₁ ps₂ : List PropertyRow} {qs qs₁ qs₂ : List ParameterRow}
@@ -103,7 +103,7 @@ module _ (text : List ℕ) where
                 second_of owner_of (omega arith) (omega (arith, count)) s.in_properties (owners_clear (before (omega arith)) o) refl
                 (properties_clear (behind (omega arith)) g);
             in_parameters =
-                second_of property_of_holds (omega arith) (omega (arith, own_count)) s.in_parameters (numbers_clear (before (omega arith)) o) refl
+                second_of property_row_of (omega arith) (omega (arith, own_count)) s.in_parameters (numbers_clear (before (omega arith)) o) refl
                 (held_clear (behind (omega arith)) g);
           }
 
@@ -121,7 +121,7 @@ module _ (text : List ℕ) where
                 third_of owner_of (omega arith) (omega (arith, count)) s.in_properties (owners_clear (before (omega arith)) o) refl
                 (properties_clear (before (omega arith)) f);
             in_parameters =
-                third_of property_of_holds (omega arith) (omega (arith, own_count)) s.in_parameters (numbers_clear (before (omega arith)) o) refl
+                third_of property_row_of (omega arith) (omega (arith, own_count)) s.in_parameters (numbers_clear (before (omega arith)) o) refl
                 (held_clear (before (omega arith)) f);
           }
 
@@ -131,9 +131,9 @@ module _ (text : List ℕ) where
           let here : Standing owner_of properties number ps row (row + 1) =
           first_of owner_of (omega arith) (omega (arith, count)) s.in_properties
           (clear_append owner_of (properties_clear (behind (omega arith)) f) (properties_clear (behind (omega arith)) g)) in
-          let held : Standing property_of_holds parameters at qs number (number + length ps) =
-          first_of property_of_holds (omega arith) (omega (arith, own_count)) s.in_parameters
-          (clear_append property_of_holds (held_clear (behind (omega arith)) f) (held_clear (behind (omega arith)) g)) in
+          let held : Standing property_row_of parameters at qs number (number + length ps) =
+          first_of property_row_of (omega arith) (omega (arith, own_count)) s.in_parameters
+          (clear_append property_row_of (held_clear (behind (omega arith)) f) (held_clear (behind (omega arith)) g)) in
           gathered owner_of (put_property parameters) [] row (omega arith) (omega arith) here ∙ properties_back parameters o held
 
       -- the rows of the first tree's children are passed over
@@ -181,5 +181,5 @@ module _ (text : List ℕ) where
         apart = behind (omega arith);
         in_components = all_standing parent_of cs 0 (0 + length cs);
         in_properties = all_standing owner_of ps 0 (0 + length cs);
-        in_parameters = all_standing property_of_holds qs 0 (0 + length ps);
+        in_parameters = all_standing property_row_of qs 0 (0 + length ps);
       }

@@ -30,7 +30,7 @@ use Rattle.lines.specs.declared.Line.TheVariants.{Begin, BadBegin, Bad}
 use Rattle.lines.proofs.Rule.{refused_key, empty_key, is_empty, is_begin, is_end, is_other, at_end, stray, valued}
 use Rattle.reading.specs.Answers.{fault_number, fault_place}
 use Rattle.demands.specs.LineGrammar.{Every, begin, end, AnyCase, as_capital, as_small, Marked}
-use Rattle.demands.specs.LineFaults.{Stops, at_colon, at_semicolon, at_end as at-line-end, ReservedLine, begin_key, end_key, Keyed, key_parameters}
+use Rattle.demands.specs.LineFaults.{Stops, at_colon, at_semicolon, at_end as at_line_end, ReservedLine, begin_key, end_key, Keyed, key_parameters}
 use Rattle.demands.specs.LineFaults.{Stray, Faulty, reserved_key, empty_key as no_key, a_stray_byte}
 use Rattle.demands.specs.GrammarRefusals.{Other}
 use Rattle.demands.proofs.Scanning.{reserved_in}
@@ -42,7 +42,7 @@ use Rattle.demands.proofs.SaidFronts.{keyed_reaches, FrontOf, front_of_holds}
 
 -- `:`, `;` or the end
 stops_of : (rest : List ℕ) → stops_at 0 rest ≡ true → Stops rest
-stops_of [] e = at-line-end
+stops_of [] e = at_line_end
 stops_of (x ∷ rest) e = go (eqb x colon) (eqb x semicolon) refl refl e
   where
     go : (s t : Bool) → eqb x colon ≡ s → eqb x semicolon ≡ t → s || t ≡ true → Stops (x ∷ rest)
@@ -51,7 +51,7 @@ stops_of (x ∷ rest) e = go (eqb x colon) (eqb x semicolon) refl refl e
     go false false p q e = absurd (false≢true e)
 
 stops_end : {rest : List ℕ} → Stops rest → Ends rest
-stops_end at-line-end = refl
+stops_end at_line_end = refl
 stops_end at_colon = refl
 stops_end at_semicolon = refl
 

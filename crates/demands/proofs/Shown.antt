@@ -20,8 +20,8 @@ parent_of c = c.parent
 abbrev pub owner_of : PropertyRow → ℕ
 owner_of p = p.owner
 
-abbrev pub property_of_holds : ParameterRow → ℕ
-property_of_holds q = q.property
+abbrev pub property_row_of : ParameterRow → ℕ
+property_row_of q = q.property
 
 -- the property that a row shows, with these parameters
 abbrev pub property_with : List ℕ → PropertyRow → List Parameter → Property
@@ -57,7 +57,7 @@ module _ (text : List ℕ) where
 module _ {text : List ℕ} where
   -- parameter rows belong to their property
   pub parameters_clear : {number low high : ℕ} {xs : List Parameter} {qs : List ParameterRow} → Apart number (number + 1) low high → Parameters text number xs qs
-      → Clear property_of_holds low high qs
+      → Clear property_row_of low high qs
   parameters_clear a no_parameter = clear
   parameters_clear a (parameter q e f) = other {x = q} (rw e a) (parameters_clear a f)
 
@@ -68,10 +68,10 @@ module _ {text : List ℕ} where
   owners_clear a (property p e x o f) = other {x = p} (rw e a) (owners_clear a f)
 
   pub numbers_clear : {owner number low high : ℕ} {xs : List Property} {ps : List PropertyRow} {qs : List ParameterRow} → Apart number (number + length ps) low high
-      → Properties text owner number xs ps qs → Clear property_of_holds low high qs
+      → Properties text owner number xs ps qs → Clear property_row_of low high qs
   numbers_clear a no_property = clear
   numbers_clear a (property p e x o f) =
-      clear_append property_of_holds (parameters_clear (some (omega arith) (omega arith) a) o)
+      clear_append property_row_of (parameters_clear (some (omega arith) (omega arith) a) o)
       (numbers_clear (some (omega arith) (omega arith) a) f)
 
   module _ {low high : ℕ} where
@@ -96,13 +96,13 @@ module _ {text : List ℕ} where
 
     -- and the parameter rows to these property rows
     pub held_clear : {parent row number : ℕ} {ts : Trees} {cs : List ComponentRow} {ps : List PropertyRow} {qs : List ParameterRow}
-        → Apart number (number + length ps) low high → Rows text parent row number ts cs ps qs → Clear property_of_holds low high qs
+        → Apart number (number + length ps) low high → Rows text parent row number ts cs ps qs → Clear property_row_of low high qs
     held_clear b no_tree = clear
     held_clear b (a_tree c {ps} {ps₁} {ps₂} e n o f g) =
         let h = length-append ps (ps₁ ++ ps₂) in
         let k = length-append ps₁ ps₂ in
-        clear_append property_of_holds (numbers_clear (some (omega arith) (omega arith) b) o)
-        (clear_append property_of_holds (held_clear (some (omega arith) (omega arith) b) f) (held_clear (some (omega arith) (omega arith) b) g))
+        clear_append property_row_of (numbers_clear (some (omega arith) (omega arith) b) o)
+        (clear_append property_row_of (held_clear (some (omega arith) (omega arith) b) f) (held_clear (some (omega arith) (omega arith) b) g))
 
   -- ---- how many rows there are: one for each component, property and parameter
 
