@@ -74,13 +74,6 @@ pub struct Span {
     pub len: usize,
 }
 
-// The key at the front of a line: refused, or as many bytes.
-#[derive(Clone, Copy)]
-pub enum Key {
-    Reserved,
-    Run(usize),
-}
-
 // Passes over capital letters at the front, eight bytes at a time: most keys are made of them.
 fn skip_capitals(line: &[u8]) -> usize
     ensures { (result ≤ length line.now) × (result + run key_byte (drop result line.now) ≡ run key_byte line.now) }
@@ -474,14 +467,14 @@ pub fn is_reserved(line: &[u8]) -> bool
     stands_alone(b"BEGIN", line) | stands_alone(b"END", line)
 }
 
-// The key at the front of a line.
-pub fn property_key(line: &[u8]) -> Key
+// How many bytes the key at the front of a line has. BEGIN and END are no key of a property.
+pub fn property_key(line: &[u8]) -> Option<usize>
     ensures { result ≡ key_of line.now }
 {
     if is_reserved(line) {
-        return Key::Reserved;
+        return None;
     }
-    Key::Run(key_run(line))
+    Some(key_run(line))
 }
 
 // The part of a text, or the empty part at its front where start and len reach outside.
