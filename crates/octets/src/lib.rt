@@ -1,7 +1,7 @@
 // Bytes: their classes, keys, equal parts, words in any case, views, and the numbers that every answer is made of.
 #![tactic(auto)]
 
-ghost use Rattle.std.specs.Prelude.{◌≡◌, false, ◌∷◌, [], ◌++◌, ◌+◌, ◌≤◌, min, length, get_or, take, drop, eqb, leb, ltb};
+ghost use Rattle.std.specs.Prelude.{◌≡◌, ℕ, Bool, ◌<◌, false, ◌∷◌, [], ◌++◌, ◌+◌, ◌≤◌, min, length, get_or, take, drop, eqb, leb, ltb};
 ghost use Rattle.octets.specs.Bytes.{key_byte, lowered, other};
 ghost use Rattle.octets.specs.Laid.{laid, counted, Lays};
 ghost use Rattle.octets.specs.Answers.{done, output, room_answer};
@@ -134,18 +134,26 @@ fn is_key_byte(b: u8) -> bool
     capital | (small | (digit | mark))
 }
 
+// The length of the longest run of bytes of a class at the front. The closure tells which bytes are of the class.
+pub fn run_while<F: Fn(u8) -> bool>(a: &[u8], is_in: F) -> usize
+    requires { F.IsAlwaysCallable is_in }
+    ensures inside { result ≤ length a.now }
+    ensures longest { (class : ℕ → Bool) → ((x : ℕ) (b : Bool) → x < 256 → F.post is_in x b → b ≡ class x) → result ≡ run class a.now }
+{
+    for (i, x) in a.iter().enumerate() {
+        if !is_in(*x) {
+            return i;
+        }
+    }
+    a.len()
+}
+
 // The length of the longest run of key bytes at the front.
 pub fn key_run(line: &[u8]) -> usize
     ensures { result ≡ run key_byte line.now }
 {
-    let mut i = skip_capitals(line);
-    while i < line.len() {
-        if !is_key_byte(line[i]) {
-            return i;
-        }
-        i += 1;
-    }
-    i
+    let n = skip_capitals(line);
+    n + run_while(&line[n..], is_key_byte)
 }
 
 // A class of bytes that eight are asked for at once.
