@@ -9,7 +9,7 @@ use lib.Bits.{bit_or, or_zero_l}
 use lib.ListN.{length, get_or, take, drop}
 use Rattle.std.proofs.lemmas.List.{get_or-take, get_or-drop}
 use lib.Dec.{ltb, eqb}
-use borrow.Author.Tests.{eq-eqb, ne_eqb, eqb-true, eqb-false, ltb-true, ltb-false, lt-ltb, le-ltb}
+use borrow.Author.Tests.{ltb-true, ltb-false, lt-ltb, le-ltb}
 use Rattle.octets.specs.Bytes.{other}
 use Rattle.octets.specs.Runs.{run}
 use Rattle.octets.proofs.Runs.{on, stop, passed}

@@ -9,11 +9,10 @@ use lib.ListN.{length, get_or, take, drop, drop_of_length-le, take-append-drop, 
 use lib.Seq.{drop-cons}
 use lib.Dec.{eqb}
 use borrow.Author.Tests.{eqb-true, eq-eqb}
-use lib.Dec.{leb, ltb}
+use lib.Dec.{leb}
 use lib.Pointwise.{pointwise}
-use borrow.Author.Tests.{le-leb, lt-leb, le-ltb, lt-ltb, leb-true, leb-false}
+use borrow.Author.Tests.{le-leb, le-ltb, lt-ltb, leb-true, leb-false}
 use Rattle.std.specs.Char.{to_ascii_lowercase}
-use Rattle.octets.specs.Choice.{pick}
 use Rattle.octets.specs.Bytes.{lowered}
 use Rattle.octets.specs.Words.{same_bytes, same_word, starts_word}
 

@@ -275,16 +275,12 @@ pub fn least(a: usize, b: usize) -> usize
     a.min(b)
 }
 
-// Lays the bytes over the front of a buffer, as far as it goes, one after the other. The loop becomes vector code.
+// Lays the bytes over the front of a buffer, as far as it goes. The library copies one byte after the other, which becomes vector code.
 fn put_each(bytes: &[u8], out: &mut [u8])
     ensures { out.new ≡ laid bytes.now out.old }
 {
-    let n = least(bytes.len(), out.len());
-    let mut i: usize = 0;
-    while i < n {
-        out[i] = bytes[i];
-        i += 1;
-    }
+    let n = bytes.len().min(out.len());
+    out[..n].copy_from_slice(&bytes[..n])
 }
 
 // Lays the eight bytes from `at` on at the same place. They go through a block that is no part of the buffer, so that they are moved as one number.
@@ -292,10 +288,9 @@ fn put_eight(bytes: &[u8], out: &mut [u8], at: usize)
     requires { (at + 8 ≤ length bytes.now) × (at + 8 ≤ length out.old) }
     ensures { out.new ≡ take at out.old ++ (take 8 (drop at bytes.now) ++ drop (at + 8) out.old) }
 {
-    let end = at + 8;
     let mut block = [0u8; 8];
-    put_each(&bytes[at..end], &mut block);
-    put_each(&block, &mut out[at..end])
+    block.copy_from_slice(&bytes[at..at + 8]);
+    out[at..at + 8].copy_from_slice(&block)
 }
 
 // Lays n bytes, eight at a time; the last eight lie partly over those before, which are the same.
@@ -304,6 +299,7 @@ fn put_eights(bytes: &[u8], out: &mut [u8], n: usize)
     ensures { out.new ≡ take n bytes.now ++ drop n out.old }
 {
     let last = n - 8;
+    // An index, as each step takes eight bytes.
     let mut i: usize = 0;
     while i < last {
         put_eight(bytes, out, i);
@@ -316,16 +312,12 @@ fn put_eights(bytes: &[u8], out: &mut [u8], n: usize)
 pub fn put(bytes: &[u8], out: &mut [u8])
     ensures { out.new ≡ laid bytes.now out.old }
 {
-    let n = least(bytes.len(), out.len());
-    if n < 8 {
-        put_each(bytes, out);
-        return;
+    let n = bytes.len().min(out.len());
+    if 8 <= n && n <= NEAR {
+        put_eights(bytes, out, n)
+    } else {
+        put_each(bytes, out)
     }
-    if n <= NEAR {
-        put_eights(bytes, out, n);
-        return;
-    }
-    put_each(bytes, out)
 }
 
 // A count goes on, as far as 64 bits go.

@@ -1,7 +1,5 @@
-use Rattle.std.proofs.Common.{◌≡◌, ◌+◌, ◌-◌, arith, sym, ap, ◌∙◌, drop, ltb}
-use Rattle.octets.specs.Bytes.{other}
-use Rattle.octets.specs.Runs.{run}
-use Rattle.octets.proofs.Hits.{hit_more, told}
+use Rattle.std.proofs.Common.{◌≡◌, ◌+◌, ◌-◌, arith}
+use Rattle.octets.proofs.Hits.{hit_more}
 use Rattle.octets.proofs.any_of_64.Goals as goal
 
 pub loop-x-preserved : goal.loop-x-preserved

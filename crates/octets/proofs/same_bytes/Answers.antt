@@ -1,4 +1,4 @@
-use Rattle.std.proofs.Common.{◌≡◌, ◌-◌, length, arith, sym, ◌∙◌, drop, take}
+use Rattle.std.proofs.Common.{arith, sym, ◌∙◌, drop}
 use borrow.Author.Tests.{le-ltb}
 use Rattle.octets.proofs.Lists.{lent}
 use Rattle.octets.proofs.Words.{unlike, same_rest, pointwise_same}

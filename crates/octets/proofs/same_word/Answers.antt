@@ -1,4 +1,4 @@
-use Rattle.std.proofs.Common.{arith, sym, ◌∙◌, drop, take, length, ◌-◌}
+use Rattle.std.proofs.Common.{sym, ◌∙◌, drop, take, length, ◌-◌}
 use Rattle.octets.proofs.Lists.{lent}
 use Rattle.octets.proofs.Words.{unlike_word, word_rest, same_small}
 use Rattle.octets.proofs.same_word.Goals as goal

@@ -1,4 +1,4 @@
-use Rattle.std.proofs.Common.{◌≡◌, ℕ, true, ◌≤◌, ◌+◌, arith, length, drop, length-drop}
+use Rattle.std.proofs.Common.{◌≡◌, ℕ, true, ◌≤◌, arith, drop, length-drop}
 use Rattle.octets.specs.Bytes.{capital, key_byte}
 use Rattle.octets.specs.Runs.{run}
 use Rattle.octets.proofs.Runs.{within, wider_at}

@@ -1,4 +1,4 @@
-use Rattle.std.proofs.Common.{arith, sym, ◌∙◌, take, length}
+use Rattle.std.proofs.Common.{sym, ◌∙◌, take, length}
 use borrow.Author.Tests.{lt-leb}
 use Rattle.octets.proofs.Words.{same_small, starts_front, starts_behind}
 use Rattle.octets.proofs.starts_word.Goals as goal
