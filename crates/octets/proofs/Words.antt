@@ -2,11 +2,9 @@
 use mathlib.Core.Path.{◌≡◌, refl, sym, ap, ◌∙◌}
 use mathlib.Core.Bool.{Bool, true, false, ◌&&◌, false≢true}
 use mathlib.Core.List.{List, [], ◌∷◌, ◌++◌, map, map-append}
-use Prim.Native.Nat.{ℕ, suc, ◌+◌, ◌≤◌, ◌<◌, zero-le, suc-le-suc}
-use native.Mathlib.Numerals.{add-one}
+use Prim.Native.Nat.{ℕ, suc, ◌≤◌, ◌<◌, zero-le, suc-le-suc}
 use native.Mathlib.Omega.{arith}
-use lib.ListN.{length, get_or, take, drop, drop_of_length-le, take-append-drop, length-map}
-use lib.Seq.{drop-cons}
+use lib.ListN.{length, take, drop, take-append-drop, length-map}
 use lib.Dec.{eqb}
 use borrow.Author.Tests.{eqb-true, eq-eqb}
 use lib.Dec.{leb}
@@ -15,15 +13,6 @@ use borrow.Author.Tests.{le-leb, le-ltb, lt-ltb, leb-true, leb-false}
 use Rattle.std.specs.Char.{to_ascii_lowercase}
 use Rattle.octets.specs.Bytes.{lowered}
 use Rattle.octets.specs.Words.{same_bytes, same_word, starts_word}
-
-pub same_turn : (xs ys : List ℕ) (i : ℕ) → i < length xs → i < length ys
-    → same_bytes (drop i xs) (drop i ys) ≡ eqb (get_or xs i 0) (get_or ys i 0) && same_bytes (drop (i + 1) xs) (drop (i + 1) ys)
-unfolding same_bytes
-same_turn xs ys i h k = rw (drop-cons xs i 0 h, drop-cons ys i 0 k, add-one)
-
-pub same_ended : (xs ys : List ℕ) (i : ℕ) → length xs ≤ i → length ys ≤ i → same_bytes (drop i xs) (drop i ys) ≡ true
-unfolding same_bytes
-same_ended xs ys i h k = rw (drop_of_length-le xs h, drop_of_length-le ys k)
 
 -- lists of unlike lengths are not the same
 pub unlike : (xs ys : List ℕ) → (length xs ≡ length ys → ⊥) → same_bytes xs ys ≡ false
@@ -79,16 +68,6 @@ differ_in_front (x ∷ xs) (y ∷ ys) us vs l e = go (eqb x y) e (differ_in_fron
     go true p rest = rest p
     go false p rest = refl
 
--- words, letter by letter
-pub word_turn : (xs ys : List ℕ) (i : ℕ) → i < length xs → i < length ys
-    → same_word (drop i xs) (drop i ys) ≡ eqb (lowered (get_or xs i 0)) (lowered (get_or ys i 0)) && same_word (drop (i + 1) xs) (drop (i + 1) ys)
-unfolding same_bytes
-word_turn xs ys i h k = rw (drop-cons xs i 0 h, drop-cons ys i 0 k, add-one)
-
-pub word_ended : (xs ys : List ℕ) (i : ℕ) → length xs ≤ i → length ys ≤ i → same_word (drop i xs) (drop i ys) ≡ true
-unfolding same_bytes
-word_ended xs ys i h k = rw (drop_of_length-le xs h, drop_of_length-le ys k)
-
 -- equal bytes are equal in lower case
 pub word_rest : (xs ys : List ℕ) (n : ℕ) → take n xs ≡ take n ys → same_word (drop n xs) (drop n ys) ≡ same_word xs ys
 word_rest xs ys n e =
@@ -101,20 +80,6 @@ word_rest xs ys n e =
 
 pub unlike_word : (xs ys : List ℕ) → (length xs ≡ length ys → ⊥) → same_word xs ys ≡ false
 unlike_word xs ys h = unlike (map lowered xs) (map lowered ys) (λ e. h (sym (length-map xs lowered) ∙ (e ∙ length-map ys lowered)))
-
-pub starts_turn : (ws xs : List ℕ) (i : ℕ) → i < length ws → i < length xs
-    → starts_word (drop i ws) (drop i xs) ≡ eqb (lowered (get_or xs i 0)) (lowered (get_or ws i 0)) && starts_word (drop (i + 1) ws) (drop (i + 1) xs)
-unfolding starts_word
-starts_turn ws xs i h k = rw (drop-cons ws i 0 h, drop-cons xs i 0 k, add-one)
-
-pub starts_ended : (ws xs : List ℕ) (i : ℕ) → length ws ≤ i → starts_word (drop i ws) (drop i xs) ≡ true
-unfolding starts_word
-starts_ended ws xs i h = rw (drop_of_length-le ws h)
-
--- the line ends before the word
-pub starts_short : (ws xs : List ℕ) (i : ℕ) → i < length ws → length xs ≤ i → starts_word (drop i ws) (drop i xs) ≡ false
-unfolding starts_word
-starts_short ws xs i h k = rw (drop-cons ws i 0 h, drop_of_length-le xs k)
 
 -- a line that starts with a word is at least as long
 pub starts_length : (ws xs : List ℕ) → starts_word ws xs ≡ true → length ws ≤ length xs
