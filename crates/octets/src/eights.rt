@@ -49,7 +49,7 @@ pub fn marks_of(a: &[u8], at: usize, b: u8) -> u64
     ensures { result ≡ marks (other b) (eight a.now at) }
 {
     // A byte that is b becomes 0. Every other one has the top bit in the sum or had it before.
-    let differ = number_at(a, at) ^ (ONES * b as u64);
+    let differ = number_at(a, at) ^ (ONES * u64::from(b));
     ((((differ & LOW) + LOW) | differ) & HIGH) ^ HIGH
 }
 
@@ -80,5 +80,5 @@ pub fn marks_of_uncommon(a: &[u8], at: usize) -> u64
 pub fn first_mark(marked: u64) -> usize
     ensures { result ≡ count_trailing_zeros 64 marked / 8 }
 {
-    (u64::trailing_zeros(marked) / 8) as usize
+    (marked.trailing_zeros() / 8) as usize
 }

@@ -228,7 +228,7 @@ pub fn any_of_64(a: &[u8], at: usize, b: u8) -> bool
 {
     let mut hit: u8 = 0;
     for x in &a[at..at + 64] {
-        hit |= (*x == b) as u8;
+        hit |= u8::from(*x == b);
     }
     hit != 0
 }
