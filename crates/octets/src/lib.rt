@@ -4,7 +4,7 @@
 ghost use Rattle.std.specs.Prelude.{◌≡◌, false, ◌∷◌, [], ◌++◌, ◌+◌, ◌≤◌, min, length, get_or, take, drop, eqb, leb, ltb};
 ghost use Rattle.octets.specs.Bytes.{key_byte, lowered, other};
 ghost use Rattle.octets.specs.Laid.{laid, counted, Lays};
-ghost use Rattle.octets.specs.Answers.{room_answer};
+ghost use Rattle.octets.specs.Answers.{done, output, room_answer};
 ghost use Rattle.octets.specs.Runs.{run};
 ghost use Rattle.octets.specs.Numbers.{marks, eight};
 ghost use Rattle.octets.specs.Classes.{member};
@@ -67,18 +67,42 @@ pub struct Output {
     pub length: usize,
 }
 
+impl Output {
+    // A refusal, at the place that it names.
+    pub fn refusal(answer: u32, place: usize) -> Output
+        ensures { result ≡ output answer place 0 }
+    {
+        Output {
+            answer,
+            place,
+            length: 0,
+        }
+    }
+
+    // Done, with so many bytes.
+    pub fn done(length: usize) -> Output
+        ensures { result ≡ output done 0 length }
+    {
+        Output {
+            answer: DONE,
+            place: 0,
+            length,
+        }
+    }
+
+    // Whether it is Done, and no refusal.
+    pub fn is_done(self) -> bool
+        ensures { result ≡ eqb self.answer done }
+    {
+        self.answer == DONE
+    }
+}
+
 // A part of a line or of a text.
 #[derive(Clone, Copy)]
 pub struct Span {
     pub start: usize,
     pub len: usize,
-}
-
-// The key at the front of a line: refused, or as many bytes.
-#[derive(Clone, Copy)]
-pub enum Key {
-    Reserved,
-    Run(usize),
 }
 
 // Passes over capital letters at the front, eight bytes at a time: most keys are made of them.
@@ -333,11 +357,7 @@ pub fn room_for(needed: usize, room: usize) -> Output
             length: needed,
         };
     }
-    Output {
-        answer: DONE,
-        place: 0,
-        length: needed,
-    }
+    Output::done(needed)
 }
 
 // How many bytes at the front of two texts of one length are seen to be the same, eight at a time. It stops at the first eight
@@ -474,14 +494,14 @@ pub fn is_reserved(line: &[u8]) -> bool
     stands_alone(b"BEGIN", line) | stands_alone(b"END", line)
 }
 
-// The key at the front of a line.
-pub fn property_key(line: &[u8]) -> Key
+// How many bytes the key at the front of a line has. BEGIN and END are no key of a property.
+pub fn property_key(line: &[u8]) -> Option<usize>
     ensures { result ≡ key_of line.now }
 {
     if is_reserved(line) {
-        return Key::Reserved;
+        return None;
     }
-    Key::Run(key_run(line))
+    Some(key_run(line))
 }
 
 // The part of a text, or the empty part at its front where start and len reach outside.
