@@ -2,7 +2,7 @@
 use mathlib.Core.Path.{◌≡◌, refl, sym, ap, ◌∙◌}
 use mathlib.Core.Bool.{Bool, true, false, ◌&&◌}
 use mathlib.Core.List.{List}
-use Prim.Native.Nat.{ℕ, ◌+◌, ◌-◌, ◌≤◌, ◌<◌}
+use Prim.Native.Nat.{ℕ, ◌+◌, ◌-◌, ◌≤◌}
 use native.Mathlib.Omega.{arith}
 use lib.ListN.{length, get_or, drop, length-drop}
 use lib.Dec.{eqb, ltb}
@@ -61,15 +61,14 @@ module _ (line : List ℕ) (n : ℕ) (q : Passed) (e : key_of line ≡ Some n) (
 
   -- the value reaches from its start to the end of the line, wherever it begins
   module _ (start : ℕ) where
-    pub from_end : start ≡ n + q.used → length line ≤ start → property n q.count (span start (length line - start)) ≡ by_key (key_of line) line
+    pub from_end : start ≡ n + q.used → n + q.used ≡ length line → property n q.count (span start (length line - start)) ≡ by_key (key_of line) line
     from_end is h =
-        let end : n + q.used ≡ length line = omega (arith, passed_within line n q (key_within line n e) passed) in
         let none : length line - start ≡ 0 = omega arith in
-        rw (none, is) (sym (at_end end))
+        rw (none, is) (sym (at_end h))
 
-    pub from_colon : start ≡ n + q.used + 1 → n + q.used < length line → get_or line (n + q.used) 0 ≡ colon
+    pub from_colon : start ≡ n + q.used + 1 → (n + q.used ≡ length line → ⊥) → get_or line (n + q.used) 0 ≡ colon
         → property n q.count (span start (length line - start)) ≡ by_key (key_of line) line
-    from_colon is short h = rw is (sym (valued (λ e. omega arith) h))
+    from_colon is short h = rw is (sym (valued short h))
 
 -- ---- the line rule, by its mark
 

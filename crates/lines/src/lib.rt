@@ -98,10 +98,12 @@ fn property_of(line: &[u8]) -> Result<Property, Fault>
     }
     let passed = parameters::parameters(&line[len..]);
     let at = len + passed.used;
-    let start = match line.get(at) {
-        None => at,
-        Some(b':') => at + 1,
-        Some(_) => return Err(Fault::StrayByte(at)),
+    let start = if at == line.len() {
+        at
+    } else if line[at] == b':' {
+        at + 1
+    } else {
+        return Err(Fault::StrayByte(at));
     };
     Ok(Property {
         key: Span { start: 0, len },

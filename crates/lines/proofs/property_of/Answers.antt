@@ -4,7 +4,7 @@ use Rattle.std.proofs.Common.{sym, ◌∙◌, arith}
 use Rattle.octets.proofs.Lists.{lent}
 use Rattle.lines.proofs.Rule.{key_within, passed_within, from_end, from_colon}
 use Rattle.lines.proofs.property_of.Goals as goal
-use Rattle.lines.proofs.property_of.Goals.{in-None, in-Some-eq58}
+use Rattle.lines.proofs.property_of.Goals.{then-at-line, else-at-line+then-line-at-eq58}
 
 pub slice_bounds-parameters-count : goal.slice_bounds-parameters-count
 slice_bounds-parameters-count c = key_within _ _ (sym c.property_key.ensures ∙ c.in_ok-len.ensures.ok_part)
@@ -17,21 +17,16 @@ overflow_add-at c =
     let inside = key_within c.args.line.now c.in_ok-len.len (sym c.property_key.ensures ∙ c.in_ok-len.ensures.ok_part) in
     omega (arith, passed_within c.args.line.now c.in_ok-len.len c.parameters-passed.result inside (rw lent at c.parameters-passed.ensures))
 
-pub overflow_sub-result : goal.overflow_sub-result
-overflow_sub-result c =
+pub bounds-line-at : goal.bounds-line-at
+bounds-line-at c =
     let inside = key_within c.args.line.now c.in_ok-len.len (sym c.property_key.ensures ∙ c.in_ok-len.ensures.ok_part) in
-    let passed = passed_within c.args.line.now c.in_ok-len.len c.parameters-passed.result inside (rw lent at c.parameters-passed.ensures) in
-    elim c.match-get.branch [
-      | in-None w ↦ omega (arith, passed, w.start-is)
-      | in-Some-eq58 w ↦ omega (arith, w.start-is, w.in-Some-eq58.ensures.lookup.3.0)
-    ]
+    omega (arith, passed_within c.args.line.now c.in_ok-len.len c.parameters-passed.result inside (rw lent at c.parameters-passed.ensures))
 
 pub returns : goal.returns
 returns c =
     let key = sym c.property_key.ensures ∙ c.in_ok-len.ensures.ok_part in
     let passed = rw lent at c.parameters-passed.ensures in
-    elim c.match-get.branch [
-      | in-None w ↦ from_end _ _ _ key c.if-len-eq0.false passed _ w.start-is (omega (arith, w.start-is, w.in-None.ensures.lookup.3))
-      | in-Some-eq58 w ↦ from_colon _ _ _ key c.if-len-eq0.false passed _ w.start-is w.in-Some-eq58.ensures.lookup.3.0
-          (sym (w.in-Some-eq58.ensures.lookup.3.1 0) ∙ w.in-Some-eq58.field-0-test)
+    elim c.if-at-line.branch [
+      | then-at-line w ↦ from_end _ _ _ key c.if-len-eq0.false passed _ w.start-is w.if-at-line.true
+      | else-at-line+then-line-at-eq58 w ↦ from_colon _ _ _ key c.if-len-eq0.false passed _ w.start-is w.if-at-line.false w.if-line-at-eq58.true
     ]
