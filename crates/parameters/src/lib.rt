@@ -44,46 +44,18 @@ pub struct Passed {
     pub used: usize,
 }
 
-// Whether the byte is a space or a tab.
-fn is_blank(x: u8) -> bool
-    ensures { result ≡ blank x }
-{
-    (x == b' ') | (x == b'\t')
-}
-
-// Whether a value without quotes may hold the byte.
-fn is_bare(x: u8) -> bool
-    ensures { result ≡ bare x }
-{
-    !((x == b';') | (x == b':'))
-}
-
 // How many spaces and tabs stand at the front.
 fn blank_run(a: &[u8]) -> usize
     ensures { result ≡ run blank a.now }
 {
-    let mut i: usize = 0;
-    while i < a.len() {
-        if !is_blank(a[i]) {
-            return i;
-        }
-        i += 1;
-    }
-    i
+    octets::run_while(a, |x| (x == b' ') | (x == b'\t'))
 }
 
 // How many bytes stand before the first `;` or `:`, or in all.
 fn bare_run(a: &[u8]) -> usize
     ensures { result ≡ run bare a.now }
 {
-    let mut i: usize = 0;
-    while i < a.len() {
-        if !is_bare(a[i]) {
-            return i;
-        }
-        i += 1;
-    }
-    i
+    octets::run_while(a, |x| !((x == b';') | (x == b':')))
 }
 
 // The byte at i, or 0 past the end.
