@@ -11,7 +11,7 @@ ghost use Rattle.walking.specs.Walk.{deeper, end_of, owned_before, owned_within,
 ghost use Rattle.walking.specs.Places.{rises};
 
 use checking::Checked;
-use tables::Tables;
+use tables::{ComponentRow, ParameterRow, PropertyRow, Row, Tables};
 
 // How far a walk through the component rows has come in the two other tables.
 #[derive(Clone, Copy)]
@@ -94,7 +94,7 @@ pub fn end_of(components: &[u32], row: usize) -> usize
 {
     let depth = tables::depth_at(components, row);
     let mut i = row + 1;
-    while i < tables::component_rows(components) {
+    while i < ComponentRow::count(components) {
         if tables::depth_at(components, i) <= depth {
             return i;
         }
@@ -108,7 +108,7 @@ pub fn first_from(properties: &[u32], from: usize, row: usize) -> usize
     ensures { result ≡ from + front (owned_before row) (drop from (properties_in properties.now)) }
 {
     let mut i = from;
-    while i < tables::property_rows(properties) {
+    while i < PropertyRow::count(properties) {
         let owner = tables::owner_at(properties, i) as usize;
         if row <= owner {
             return i;
@@ -123,7 +123,7 @@ fn last_within(properties: &[u32], from: usize, row: usize, end: usize) -> usize
     ensures { result ≡ from + front (owned_within row end) (drop from (properties_in properties.now)) }
 {
     let mut i = from;
-    while i < tables::property_rows(properties) {
+    while i < PropertyRow::count(properties) {
         let owner = tables::owner_at(properties, i) as usize;
         if !((row <= owner) & (owner < end)) {
             return i;
@@ -138,7 +138,7 @@ pub fn first_held(parameters: &[u32], from: usize, property: usize) -> usize
     ensures { result ≡ from + front (held_before property) (drop from (parameters_in parameters.now)) }
 {
     let mut i = from;
-    while i < tables::parameter_rows(parameters) {
+    while i < ParameterRow::count(parameters) {
         let held = tables::property_of(parameters, i) as usize;
         if property <= held {
             return i;
@@ -153,7 +153,7 @@ pub fn run_of(parameters: &[u32], from: usize, property: usize) -> usize
     ensures { result ≡ front (belongs property) (drop from (parameters_in parameters.now)) }
 {
     let mut i = from;
-    while i < tables::parameter_rows(parameters) {
+    while i < ParameterRow::count(parameters) {
         let held = tables::property_of(parameters, i) as usize;
         if held != property {
             return i - from;
@@ -202,14 +202,12 @@ pub fn in_order(components: &[u32], properties: &[u32]) -> bool
 {
     let mut found: usize = 0;
     let mut first: usize = 0;
-    let mut row: usize = 0;
-    while row < tables::component_rows(components) {
+    for row in 0..ComponentRow::count(components) {
         first = first_from(properties, first, row);
         let last = last_within(properties, first, row, end_of(components, row));
         found += own_rows(properties, row, first, last);
-        row += 1;
     }
-    found == tables::property_rows(properties)
+    found == PropertyRow::count(properties)
 }
 
 // The window of a component; all rows, where the tables are not in order.
@@ -236,7 +234,7 @@ pub fn window_of(
     if !ordered {
         return Window {
             first: 0,
-            last: tables::property_rows(properties),
+            last: PropertyRow::count(properties),
             parameter: 0,
             end: end,
             cursor: next,
@@ -263,7 +261,7 @@ pub fn children_end(level: usize, first: usize, end: usize) -> usize
 fn is_below(components: &[u32], row: usize, depth: u32) -> bool
     ensures { result ≡ stands component_size component_at (deeper depth) components.now row }
 {
-    if tables::component_rows(components) <= row {
+    if ComponentRow::count(components) <= row {
         return false;
     }
     depth < tables::depth_at(components, row)

@@ -33,7 +33,7 @@ loop_holds c =
     let a = c.args in
     ap (λ (d : ℕ). from_row a.components.now d (a.row + 1)) (c.depth_at-depth.ensures ∙ depth_there a.components.now a.row c.requires)
 
-component_rows_requires : tie.Need-component_rows-requires invariant-loop-i decreases-loop-i
+component_rows_requires : tie.Need-count-requires invariant-loop-i decreases-loop-i
 component_rows_requires c κs = search rules
 
 depth_at_requires_2 : tie.Need-depth_at-requires invariant-loop-i decreases-loop-i

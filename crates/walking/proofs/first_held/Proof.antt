@@ -20,7 +20,7 @@ decreases-loop-i table from row i₀ i = length table / parameter_size - i
 loop_holds : tie.Need-loop-i-init invariant-loop-i decreases-loop-i
 loop_holds c = refl
 
-parameter_rows_requires : tie.Need-parameter_rows-requires invariant-loop-i decreases-loop-i
+parameter_rows_requires : tie.Need-count-requires invariant-loop-i decreases-loop-i
 parameter_rows_requires c κs = search rules
 
 property_of_requires : tie.Need-property_of-held-requires invariant-loop-i decreases-loop-i

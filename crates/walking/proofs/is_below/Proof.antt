@@ -10,10 +10,10 @@ use Rattle.walking.proofs.Lockstep.{stands_there, stands_not}
 use Rattle.walking.proofs.is_below.Statement.{statement}
 use Rattle.walking.proofs.is_below.Tie as tie
 
-component_rows_requires : tie.Need-component_rows-requires
+component_rows_requires : tie.Need-count-requires
 component_rows_requires c κs = search rules
 
-returns : tie.Need-returns-then-component_rows-row
+returns : tie.Need-returns-then-count-row
 returns c =
     let a = c.args in
     stands_not component_size component_at (deeper a.depth) a.components.now a.row (omega arith)

@@ -25,7 +25,7 @@ decreases-loop-i table from row end i₀ i = length table / property_size - i
 loop_holds : tie.Need-loop-i-init invariant-loop-i decreases-loop-i
 loop_holds c = refl
 
-property_rows_requires : tie.Need-property_rows-requires invariant-loop-i decreases-loop-i
+property_rows_requires : tie.Need-count-requires invariant-loop-i decreases-loop-i
 property_rows_requires c κs = search rules
 
 owner_at_requires : tie.Need-owner_at-owner-requires invariant-loop-i decreases-loop-i

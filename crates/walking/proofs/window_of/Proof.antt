@@ -23,14 +23,14 @@ first_held_requires c κs = search rules
 end_of_requires : tie.Need-end_of-end-requires
 end_of_requires c κs = search rules
 
-property_rows_requires : tie.Need-property_rows-requires
+property_rows_requires : tie.Need-count-requires
 property_rows_requires c κs = search rules
 
 returns : tie.Need-returns-then-not-ordered
 returns c =
     let f = c.before.before.before.before in
     let a = (start f).args in
-    rw (c.property_rows.ensures ∙ sym (length_rows property_size property_at a.properties.now))
+    rw (c.count.ensures ∙ sym (length_rows property_size property_at a.properties.now))
     (holds_all (properties_in a.properties.now) (parameters_in a.parameters.now) (components_in a.components.now) (start f).requires.1.0
     f.first_from-first.ensures c.first_held-parameter.ensures c.end_of-end.ensures)
 
