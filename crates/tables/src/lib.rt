@@ -3,7 +3,7 @@
 
 ghost use Rattle.std.specs.Prelude.{◌≡◌, ℕ, ◌+◌, ◌/◌, ◌<◌, ◌≤◌, List, length};
 ghost use Rattle.std.proofs.Common.{rules};
-ghost use Rattle.tables.specs.Rows.{component_size, property_size, parameter_size, component_words, property_words, parameter_words, component_from, property_from, parameter_from, component_at, property_at, parameter_at, row_at, put_row};
+ghost use Rattle.tables.specs.Rows.{component_size, property_size, parameter_size, component_words, property_words, parameter_words, component_from, property_from, parameter_from, row_at, put_row};
 
 // The parent of a component at the top.
 pub const NO_PARENT: u32 = 4294967295;
@@ -195,26 +195,4 @@ impl Row for ParameterRow {
             row,
         )
     }
-}
-
-// The one word of a row that a search looks at: a component's depth, a property's owner, a parameter's property.
-pub fn depth_at(table: &[u32], row: usize) -> u32
-    requires { row < length table.now / component_size }
-    ensures { result ≡ (component_at table.now row).depth }
-{
-    table[ComponentRow::WORDS * row + 1]
-}
-
-pub fn owner_at(table: &[u32], row: usize) -> u32
-    requires { row < length table.now / property_size }
-    ensures { result ≡ (property_at table.now row).owner }
-{
-    table[PropertyRow::WORDS * row]
-}
-
-pub fn property_of(table: &[u32], row: usize) -> u32
-    requires { row < length table.now / parameter_size }
-    ensures { result ≡ (parameter_at table.now row).property }
-{
-    table[ParameterRow::WORDS * row]
 }
