@@ -17,7 +17,7 @@ use lines::{Fault, Line, Property};
 use octets::Span;
 use parameters::{Param, Value};
 use std::marker::Model;
-use tables::{ComponentRow, ParameterRow, PropertyRow};
+use tables::{ComponentRow, ParameterRow, PropertyRow, Row};
 
 // An open component: its row, and where its name stands in the text.
 #[derive(Clone, Copy)]
@@ -229,7 +229,7 @@ fn put_parameters(
         && line[at] == b';'
         && let Some(p) = parameters::parameter(&line[at..])
     {
-        tables::put_parameter(table, row, parameter_row(property, start + at, p));
+        parameter_row(property, start + at, p).put(table, row);
         at += p.used;
         row += 1;
     }
@@ -254,17 +254,14 @@ fn put_property_line(
     let value = p.value;
     let row = counts.properties;
     let first = counts.parameters;
-    tables::put_property(
-        properties,
-        row,
-        PropertyRow {
-            owner,
-            key_start: (start + key.start) as u32,
-            key_len: key.len as u32,
-            value_start: (start + value.start) as u32,
-            value_len: value.len as u32,
-        },
-    );
+    let property = PropertyRow {
+        owner,
+        key_start: (start + key.start) as u32,
+        key_len: key.len as u32,
+        value_start: (start + value.start) as u32,
+        value_len: value.len as u32,
+    };
+    property.put(properties, row);
     let from = key.len;
     put_parameters(line, start, from, row as u32, first, parameters);
 }
@@ -366,7 +363,7 @@ pub fn pass(
             Line::Begin(name) => {
                 let entry = entry_of(counts.components, start, name);
                 let row = component_row(open.parent(), open.depth(), entry);
-                tables::put_component(components, counts.components, row);
+                row.put(components, counts.components);
                 open.push(entry);
                 counts = counts.with_component();
             }

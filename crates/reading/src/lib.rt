@@ -14,6 +14,7 @@ ghost use Rattle.reading.specs.NewTables.{is_zero};
 use lines::Fault;
 use nesting::{Counts, Refusal, Refused};
 use octets::Output;
+use tables::{ComponentRow, ParameterRow, PropertyRow, Row};
 
 mod zeros;
 
@@ -107,9 +108,9 @@ fn place_of(r: Refusal, from: usize) -> usize
 fn have_room(told: Reading, components: &[u32], properties: &[u32], parameters: &[u32]) -> bool
     ensures { result ≡ fits (counts_in told) (room_for (length components.now) (length properties.now) (length parameters.now)) }
 {
-    (told.components <= tables::component_rows(components))
-        & ((told.properties <= tables::property_rows(properties))
-            & (told.parameters <= tables::parameter_rows(parameters)))
+    (told.components <= ComponentRow::count(components))
+        & ((told.properties <= PropertyRow::count(properties))
+            & (told.parameters <= ParameterRow::count(parameters)))
 }
 
 // Unfolds a feed into a text, which stays as it was where the feed does not fit. Returns the unfolded length.

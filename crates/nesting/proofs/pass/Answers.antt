@@ -77,7 +77,7 @@ loop-at-preserved-in-Begin c =
       after at (content_at text at) (Begin c.in-Begin.name) c.loop-at.invariant.0,
       moved_to (ap (λ (x : Extent). x.next) c.line_at-extent.ensures)
           (rw c.push.ensures (adds_component so c.loop-at-test.true (rw bytes at c.read_line-line.ensures) c.in-Begin.name c.in-Begin.is is_fine
-          _ (rw so.«open» at c.parent.ensures) _ c.entry_of-entry.ensures _ _ (c.put_component.ensures ∙ row) c.with_component-counts.ensures)),
+          _ (rw so.«open» at c.parent.ensures) _ c.entry_of-entry.ensures _ _ (c.put.ensures ∙ row) c.with_component-counts.ensures)),
     )
 
 pub loop-at-preserved-in-End : goal.loop-at-preserved-in-End

@@ -38,7 +38,7 @@ loop-at-smaller c =
 pub loop-at-preserved : goal.loop-at-preserved
 loop-at-preserved c =
     more _ _ _ c.loop-at.invariant c.in-Some.p (sym (rw lent at c.parameter.ensures) ∙ c.in-Some.is) _
-    (c.put_parameter.ensures ∙ ap (λ (r : ParameterRow). put_row parameter_size c.loop-at.row (parameter_words r) c.loop-at.table) c.parameter_row.ensures)
+    (c.put.ensures ∙ ap (λ (r : ParameterRow). put_row parameter_size c.loop-at.row (parameter_words r) c.loop-at.table) c.parameter_row.ensures)
 
 pub returns-after-loop-at : goal.returns-after-loop-at
 returns-after-loop-at c = end _ _ _ c.loop-at.invariant c.loop-at-test.false
