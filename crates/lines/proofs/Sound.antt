@@ -12,8 +12,7 @@ use Rattle.octets.specs.Bytes.{key_byte, colon}
 use Rattle.octets.specs.Runs.{run}
 use Rattle.octets.specs.Words.{starts_word}
 use Rattle.octets.specs.Keys.{key_of}
-use Rattle.octets.specs.declared.Key.{Key}
-use Rattle.octets.specs.declared.Key.TheVariants.{Reserved, Run}
+use Rattle.std.specs.Prelude.{Option, Some, None}
 use Rattle.octets.proofs.Words.{starts_length}
 use Rattle.parameters.specs.Values.{span}
 use Rattle.parameters.specs.Parameters.{passed_of}
@@ -54,9 +53,9 @@ module _ (line : List ℕ) (n : ℕ) (some : n ≡ 0 → ⊥) (h : n ≤ length 
           record { front = refl; some = omega arith; count = refl; fewer = few; behind = omega arith; value = omega (arith, at_most, ne) }
       go false e false = omega (arith, at_most, eqb-false (n + q.used) (length line) e)
 
-sound_key : (line : List ℕ) (k : Key) → key_of line ≡ k → Sound line (by_key k line)
-sound_key line Reserved e = tt
-sound_key line (Run n) e = go (eqb n 0) refl
+sound_key : (line : List ℕ) (k : Option ℕ) → key_of line ≡ k → Sound line (by_key k line)
+sound_key line None e = tt
+sound_key line (Some n) e = go (eqb n 0) refl
   where
     go : (t : Bool) → eqb n 0 ≡ t → Sound line (pick t (Bad EmptyKey) (value_from n (passed_of (drop n line)).count (n + (passed_of (drop n line)).used) line))
     go true p = tt

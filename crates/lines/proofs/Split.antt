@@ -94,13 +94,13 @@ lf_break at xs end e h b =
     let n : end + 1 ≡ at + (to_break xs + 1) = omega arith in
     rw (lt-ltb (to_break xs) (length xs) h, ne_eqb (get_or xs (to_break xs - 1) 0) cr b, l, n)
 
-pub empty_line : (at : ℕ) (xs : List ℕ) (end : ℕ) → end ≡ at + to_break xs → to_break xs < length xs → end ≡ at → extent 0 (end + 1) ≡ extent_of at xs
+-- an empty line has no byte before its break, and at its start stands the LF
+pub empty_line : (at : ℕ) (xs : List ℕ) (end : ℕ) → end ≡ at + to_break xs → to_break xs < length xs → end ≡ at → extent (end - at) (end + 1) ≡ extent_of at xs
 empty_line at xs end e h z =
     let n : to_break xs ≡ 0 = omega arith in
     let b : get_or xs (to_break xs) 0 ≡ lf = eqb-true (get_or xs (to_break xs) 0) lf (not-false _ (stopped (other lf) xs h)) in
-    let l : end - at ≡ 0 = omega arith in
     let p : to_break xs - 1 ≡ to_break xs = omega arith in
-    (rw l at (lf_break at xs end e h (λ q. no_cr (get_or xs (to_break xs) 0) b (rw p at q))))
+    lf_break at xs end e h (λ q. no_cr (get_or xs (to_break xs) 0) b (rw p at q))
   where
     no_cr : (x : ℕ) → x ≡ lf → x ≡ cr → ⊥
     no_cr x p q = omega arith

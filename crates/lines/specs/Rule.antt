@@ -2,18 +2,18 @@
 -- (document 02, request 2). Offsets count in the line.
 -- Here document 01 departs from the RFC: docs/DIFFERENCES.md, R-4, R-5, R-15, R-16, R-17.
 -- Assumes nothing.
-use Rattle.std.specs.Prelude.{ℕ, ◌+◌, ◌-◌, ◌&&◌, List, [], ◌∷◌, ◌++◌, length, get_or, drop, eqb, ltb}
+use Rattle.std.specs.Prelude.{ℕ, ◌+◌, ◌-◌, ◌&&◌, List, [], ◌∷◌, ◌++◌, Option, Some, None, Result, Ok, Err, length, get_or, drop, eqb, ltb}
 use Rattle.octets.specs.Choice.{pick}
 use Rattle.octets.specs.Bytes.{colon, key_byte}
 use Rattle.octets.specs.Runs.{run}
 use Rattle.octets.specs.Words.{starts_word, begin_word, end_word}
 use Rattle.octets.specs.Keys.{key_of}
-use Rattle.octets.specs.declared.Key.{Key}
-use Rattle.octets.specs.declared.Key.TheVariants.{Reserved, Run}
 use Rattle.octets.specs.declared.Span.{Span}
 use Rattle.parameters.specs.Values.{span}
 use Rattle.parameters.specs.Parameters.{passed_of}
 use Rattle.parameters.specs.declared.Passed.{Passed}
+use Rattle.lines.specs.declared.Property.{Property}
+use Rattle.lines.specs.declared.Fault.{Fault}
 use Rattle.lines.specs.declared.Fault.TheVariants.{ReservedKey, EmptyKey, StrayByte}
 use Rattle.lines.specs.declared.Line.{Line}
 use Rattle.lines.specs.declared.Line.TheVariants.{Empty, Begin, BadBegin, End, Content, Bad}
@@ -53,9 +53,14 @@ abbrev pub after_key : ℕ → Passed → List ℕ → Line
 after_key key passed line = value_from key passed.count (key + passed.used) line
 
 -- the property rule: a key that is not reserved and has at least one byte, parameters, and the value
-abbrev pub by_key : Key → List ℕ → Line
-by_key Reserved line = Bad ReservedKey
-by_key (Run n) line = pick (eqb n 0) (Bad EmptyKey) (after_key n (passed_of (drop n line)) line)
+abbrev pub by_key : Option ℕ → List ℕ → Line
+by_key None line = Bad ReservedKey
+by_key (Some n) line = pick (eqb n 0) (Bad EmptyKey) (after_key n (passed_of (drop n line)) line)
+
+-- a line that has been read as a property, or what is wrong with it
+abbrev pub property_or_bad : Result Property Fault → Line
+property_or_bad (Ok p) = Content p
+property_or_bad (Err fault) = Bad fault
 
 unfoldable pub line_of : List ℕ → Line
 line_of line =

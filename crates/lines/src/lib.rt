@@ -5,9 +5,9 @@ ghost use Rattle.std.specs.Prelude.{◌≡◌, ◌+◌, ◌≤◌, ◌<◌, leng
 ghost use Rattle.octets.specs.Words.{starts_word};
 ghost use Rattle.octets.specs.Keys.{key_of};
 ghost use Rattle.lines.specs.Split.{extent_of};
-ghost use Rattle.lines.specs.Rule.{line_of, after_begin, begin_of, by_key, begin_mark, end_mark};
+ghost use Rattle.lines.specs.Rule.{line_of, after_begin, begin_of, by_key, property_or_bad, begin_mark, end_mark};
 
-use octets::{Key, Span};
+use octets::Span;
 
 // A line of a text: how long it is without its break, and where the next one starts.
 #[derive(Clone, Copy)]
@@ -59,23 +59,13 @@ pub fn line_at(text: &[u8], at: usize) -> Extent
             next: end,
         };
     }
-    if end == at {
-        return Extent {
-            len: 0,
-            next: end + 1,
-        };
-    }
-    let last = end - 1;
-    if text[last] == b'\r' {
-        return Extent {
-            len: last - at,
-            next: end + 1,
-        };
-    }
-    Extent {
-        len: end - at,
-        next: end + 1,
-    }
+    // Of an empty line the byte in front belongs to the line before.
+    let len = if at < end && text[end - 1] == b'\r' {
+        end - 1 - at
+    } else {
+        end - at
+    };
+    Extent { len, next: end + 1 }
 }
 
 // Where the rest of a line starts, behind `BEGIN:` and behind `END:`.
@@ -98,31 +88,25 @@ fn begin_line(line: &[u8]) -> Line
     Line::BadBegin
 }
 
-fn property_line(line: &[u8]) -> Line
-    ensures { result ≡ by_key (key_of line.now) line.now }
+// The property rule: a key, parameters, and behind a colon the value, which is empty where the line ends instead.
+fn property_of(line: &[u8]) -> Result<Property, Fault>
+    ensures { property_or_bad result ≡ by_key (key_of line.now) line.now }
 {
-    let Key::Run(n) = octets::property_key(line) else {
-        return Line::Bad(Fault::ReservedKey);
+    let len = octets::property_key(line).ok_or(Fault::ReservedKey)?;
+    if len == 0 {
+        return Err(Fault::EmptyKey);
+    }
+    let passed = parameters::parameters(&line[len..]);
+    let at = len + passed.used;
+    let start = if at == line.len() {
+        at
+    } else if line[at] == b':' {
+        at + 1
+    } else {
+        return Err(Fault::StrayByte(at));
     };
-    if n == 0 {
-        return Line::Bad(Fault::EmptyKey);
-    }
-    let key = Span { start: 0, len: n };
-    let passed = parameters::parameters(&line[n..]);
-    let at = n + passed.used;
-    if at == line.len() {
-        return Line::Content(Property {
-            key,
-            parameters: passed.count,
-            value: Span { start: at, len: 0 },
-        });
-    }
-    if line[at] != b':' {
-        return Line::Bad(Fault::StrayByte(at));
-    }
-    let start = at + 1;
-    Line::Content(Property {
-        key,
+    Ok(Property {
+        key: Span { start: 0, len },
         parameters: passed.count,
         value: Span {
             start,
@@ -135,7 +119,7 @@ fn property_line(line: &[u8]) -> Line
 pub fn read_line(line: &[u8]) -> Line
     ensures { result ≡ line_of line.now }
 {
-    if line.len() == 0 {
+    if line.is_empty() {
         return Line::Empty;
     }
     if octets::may_be_reserved(line) {
@@ -149,5 +133,8 @@ pub fn read_line(line: &[u8]) -> Line
             });
         }
     }
-    property_line(line)
+    match property_of(line) {
+        Ok(property) => Line::Content(property),
+        Err(fault) => Line::Bad(fault),
+    }
 }

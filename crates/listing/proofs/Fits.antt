@@ -31,11 +31,10 @@ use Rattle.tables.specs.Rows.{component_size, property_size, parameter_size, com
 use Rattle.tables.specs.declared.ComponentRow.{ComponentRow}
 use Rattle.tables.specs.declared.PropertyRow.{PropertyRow}
 use Rattle.tables.proofs.Laws.{Shape, component_shape, property_shape, parameter_shape, flat_append, length_flat, read_back}
-use Rattle.nesting.specs.declared.Check.{Check}
 use Rattle.nesting.specs.declared.Counts.{Counts}
 use Rattle.nesting.specs.declared.Entry.{Entry}
 use Rattle.nesting.specs.Rows.{entry, top, component_row, property_row, parameter_with, parameter_row}
-use Rattle.nesting.specs.Steps.{State, if_open, closed, check_of, after, finished, run_of, counts_of}
+use Rattle.nesting.specs.Steps.{fine, State, if_open, closed, check_of, after, finished, run_of, counts_of}
 use Rattle.nesting.proofs.Lines.{deep, at_the_end}
 use Rattle.reading.specs.declared.Reading.{Reading}
 use Rattle.reading.specs.Answers.{refusal}
@@ -43,10 +42,8 @@ use Rattle.tables.specs.Lent.{Lent}
 use Rattle.reading.specs.Lent.{room_in, read_into, left}
 use Rattle.listing.proofs.Rooms.{done_within}
 use Rattle.listing.specs.Texts.{field, digit, digits, decimal, parent_field}
-use Rattle.listing.specs.Lines.{listed_component, listed_property, listed_parameter, listed_rows, heading, section_text, refused}
+use Rattle.listing.specs.Lines.{Section, Components, Properties, Parameters, listed_component, listed_property, listed_parameter, listed_rows, heading, section_text, refused}
 use Rattle.listing.specs.Listing.{longest_listed, listing_room, listed, listing, rooms, listing_of}
-use Rattle.listing.specs.declared.Section.{Section}
-use Rattle.listing.specs.declared.Section.TheVariants.{Components, Properties, Parameters}
 
 -- ---- fields
 
@@ -230,12 +227,12 @@ module _ (text : List ℕ) where
               );
         }
 
-    owner : (es : List Entry) → UpTo at es → if_open Check.Fine es ≡ Check.Fine → length (decimal (top es)) ≤ 5
+    owner : (es : List Entry) → UpTo at es → if_open fine es ≡ fine → length (decimal (top es)) ≤ 5
     unfolding UpTo
     owner [] u h = absurd (let z : ◌≡◌ {A = ℕ} 0 1 = cc in omega arith)
     owner (e ∷ es) (a, u) h = number_few e.row (omega arith)
 
-    content : (p : Property) → SoundProperty line p → if_open Check.Fine s.opens ≡ Check.Fine → Sized text (at + length line) (after at line (Content p) s)
+    content : (p : Property) → SoundProperty line p → if_open fine s.opens ≡ fine → Sized text (at + length line) (after at line (Content p) s)
     content p o h =
         let r = property_row (top s.opens) at p in
         let ps = params_after (at + p.key.len) 0 (drop p.key.len line) in
@@ -266,7 +263,7 @@ module _ (text : List ℕ) where
         }
 
   step : (at : ℕ) (s : State) → Sized text at s → at ≤ longest_listed → (from line : List ℕ) → (l : Line) → Sound line l
-      → check_of from line l s.opens ≡ Check.Fine → Sized text (at + length line) (after at line l s)
+      → check_of from line l s.opens ≡ fine → Sized text (at + length line) (after at line l s)
   step at s w short from line Empty o c = further at (at + length line) s (omega arith) w
   step at s w short from line (Begin name) o c = begin at s w short line name o (omega (arith, deep s.opens c))
   step at s w short from line BadBegin o c = further at (at + length line) s (omega arith) w

@@ -16,9 +16,8 @@ use Rattle.tables.specs.Lent.{Lent}
 use Rattle.reading.specs.Lent.{read_into, left}
 use Rattle.reading.specs.declared.Reading.{Reading}
 use Rattle.listing.specs.Texts.{field, digit, digits, decimal, parent_field}
-use Rattle.listing.specs.Lines.{listed_parameter, listed_rows, section_text, refused}
+use Rattle.listing.specs.Lines.{Components, Properties, Parameters, listed_parameter, listed_rows, section_text, refused}
 use Rattle.listing.specs.Listing.{longest_listed, listed, listing, left_listed}
-use Rattle.listing.specs.declared.Section.TheVariants.{Components, Properties, Parameters}
 
 -- ---- digits
 

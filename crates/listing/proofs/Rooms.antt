@@ -15,8 +15,8 @@ use Rattle.unfolding.specs.Unfold.{unfolded}
 use Rattle.tables.specs.Rows.{flat, component_words, property_words, parameter_words}
 use Rattle.nesting.specs.Steps.{outcome_of}
 use Rattle.nesting.specs.declared.Counts.{Counts}
-use Rattle.nesting.specs.declared.Outcome.{Outcome}
-use Rattle.nesting.specs.declared.Outcome.TheVariants.{Read, Refused}
+use Rattle.std.specs.Prelude.{Result, Ok, Err}
+use Rattle.nesting.specs.declared.Refused.{Refused}
 use Rattle.reading.specs.Answers.{refusal, told, counts_in, fits, answered, by_room, reading_of, rows_in, table_after}
 use Rattle.tables.specs.Lent.{Lent}
 use Rattle.reading.specs.Lent.{room_in, read_into, left}
@@ -51,12 +51,12 @@ done_within feed text_room room = go (leb (length feed) longest) (leb (length (u
     size : ℕ
     size = length (unfolded feed)
 
-    go : (t u : Bool) (o : Outcome) → outcome_of (unfolded feed) ≡ o → (pick t (pick u (answered o size (by_room room)) (refusal no_text_room 0 size)) (refusal too_long 0 0)).answer ≡ done
+    go : (t u : Bool) (o : Result Counts Refused) → outcome_of (unfolded feed) ≡ o → (pick t (pick u (answered o size (by_room room)) (refusal no_text_room 0 size)) (refusal too_long 0 0)).answer ≡ done
         → Within feed (pick t (pick u (answered o size (by_room room)) (refusal no_text_room 0 size)) (refusal too_long 0 0)) room
     go false u o q e = absurd (omega arith)
     go true false o q e = absurd (omega arith)
-    go true true (Refused x place) q e = absurd (eqb-false _ done (refusal_number x) e)
-    go true true (Read counts) q e = counted_within feed counts room size (fits counts room) (read_to_end (unfolded feed) counts q) refl e
+    go true true (Err x) q e = absurd (eqb-false _ done (refusal_number x.refusal) e)
+    go true true (Ok counts) q e = counted_within feed counts room size (fits counts room) (read_to_end (unfolded feed) counts q) refl e
 
 table_length : {A : Type 0} (words : A → List ℕ) (rows : List A) (r : Reading) (table : List ℕ) → length (table_after words rows r table) ≡ length table
 table_length words rows r table = go (eqb r.answer done)

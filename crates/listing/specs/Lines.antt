@@ -5,14 +5,12 @@ use Rattle.std.specs.Prelude.{ℕ, zero, suc, ◌+◌, List, [], ◌∷◌, ◌+
 use Rattle.octets.specs.Choice.{pick}
 use Rattle.octets.specs.Bytes.{space, lf, equals}
 use Rattle.octets.specs.Views.{viewed}
-use Rattle.tables.specs.Rows.{component_size, property_size, parameter_size, component_at, property_at, parameter_at}
+use Rattle.tables.specs.Rows.{component_at, property_at, parameter_at}
 use Rattle.tables.specs.declared.ComponentRow.{ComponentRow}
 use Rattle.tables.specs.declared.PropertyRow.{PropertyRow}
 use Rattle.tables.specs.declared.ParameterRow.{ParameterRow}
 use Rattle.reading.specs.declared.Reading.{Reading}
 use Rattle.listing.specs.Texts.{field, decimal, parent_field}
-use Rattle.listing.specs.declared.Section.{Section}
-use Rattle.listing.specs.declared.Section.TheVariants.{Components, Properties, Parameters}
 
 abbrev pub listed_component : List ℕ → ComponentRow → List ℕ
 listed_component text c =
@@ -30,10 +28,11 @@ listed_parameter text p =
     (field (viewed text p.key_start p.key_len) lf)
     (field (viewed text p.key_start p.key_len) equals ++ field (viewed text p.value_start p.value_len) lf)
 
-abbrev pub row_size : Section → ℕ
-row_size Components = component_size
-row_size Properties = property_size
-row_size Parameters = parameter_size
+-- one of the three tables
+pub data Section : Type 0 where
+  Components : Section
+  Properties : Section
+  Parameters : Section
 
 -- the line of row n of a table
 abbrev pub listed_row : Section → List ℕ → List ℕ → ℕ → List ℕ
@@ -53,8 +52,11 @@ heading Properties = field (112 ∷ 114 ∷ 111 ∷ 112 ∷ 101 ∷ 114 ∷ 116 
 heading Parameters = field (112 ∷ 97 ∷ 114 ∷ 97 ∷ 109 ∷ 101 ∷ 116 ∷ 101 ∷ 114 ∷ 115 ∷ []) space
 
 -- a section: its count, then its rows
+abbrev pub section : List ℕ → (ℕ → List ℕ) → ℕ → List ℕ
+section title line count = title ++ (field (decimal count) lf ++ listed_rows line 0 count)
+
 abbrev pub section_text : Section → List ℕ → List ℕ → ℕ → List ℕ
-section_text which text table count = heading which ++ (field (decimal count) lf ++ listed_rows (listed_row which text table) 0 count)
+section_text which text table count = section (heading which) (listed_row which text table) count
 
 -- "A refusal prints one line, `refused` and the six numbers, spaced alike"
 abbrev pub refused : Reading → List ℕ

@@ -8,8 +8,7 @@ use Rattle.reading.specs.Answers.{refusal}
 use Rattle.tables.specs.Lent.{Lent, lent}
 use Rattle.reading.specs.Lent.{room_in, read_into, left}
 use Rattle.reading.specs.declared.Reading.{Reading}
-use Rattle.listing.specs.Lines.{section_text, refused}
-use Rattle.listing.specs.declared.Section.TheVariants.{Components, Properties, Parameters}
+use Rattle.listing.specs.Lines.{Components, Properties, Parameters, section_text, refused}
 
 -- a reading that is Done has its rows in the tables
 pub record HasRows (r : Reading) (b : Lent) : Type 0 where

@@ -1,16 +1,17 @@
 // The listing of a feed as text: three sections of rows, or one line that says why the feed is refused.
 #![tactic(auto)]
 
-ghost use Rattle.std.specs.Prelude.{◌≡◌, ◌+◌, ◌≤◌, ◌<◌, ◌/◌, length};
+ghost use Rattle.std.specs.Prelude.{◌≡◌, ◌≤◌, ◌/◌, List, ℕ, length};
 ghost use Rattle.octets.specs.Laid.{Lays};
 ghost use Rattle.listing.specs.Texts.{field, digit, digits, decimal, parent_field};
-ghost use Rattle.listing.specs.Lines.{listed_component, listed_property, listed_parameter, row_size, listed_row, listed_rows, heading, section_text, refused};
+ghost use Rattle.listing.specs.Lines.{Components, Properties, Parameters, listed_component, listed_property, listed_parameter, listed_rows, heading, section, refused};
 ghost use Rattle.listing.specs.Listing.{HasRows, listed, listing, left_listed, listing_of};
 ghost use Rattle.tables.specs.Lent.{lent};
+ghost use Rattle.tables.specs.Rows.{row_at};
 ghost use Rattle.reading.specs.Lent.{read_into, left};
 
 use reading::Reading;
-use tables::{ComponentRow, ParameterRow, PropertyRow};
+use tables::{ComponentRow, ParameterRow, PropertyRow, Row};
 
 // The most bytes of a feed that is listed.
 pub const LONGEST: usize = 16_384;
@@ -19,21 +20,26 @@ pub const LONGEST: usize = 16_384;
 pub const ROOM: usize = 32_768;
 
 // The words of 128 components, 512 properties and 512 parameters.
-const COMPONENTS: usize = 128 * tables::COMPONENT_WORDS;
+const COMPONENTS: usize = 128 * ComponentRow::WORDS;
 
-const PROPERTIES: usize = 512 * tables::PROPERTY_WORDS;
+const PROPERTIES: usize = 512 * PropertyRow::WORDS;
 
-const PARAMETERS: usize = 512 * tables::PARAMETER_WORDS;
+const PARAMETERS: usize = 512 * ParameterRow::WORDS;
 
 // A number of 64 bits has at most so many digits.
 const PLACES: usize = 20;
 
-// Which of the three tables is listed.
-#[derive(Clone, Copy)]
-pub enum Section {
-    Components,
-    Properties,
-    Parameters,
+// A kind of row as its section lists it: the heading, and the line of a row.
+trait Listed: Row {
+    ghost title: { List ℕ };
+
+    ghost line: { List ℕ → Self → List ℕ };
+
+    fn lay_heading(out: &mut [u8], at: usize) -> usize
+        ensures { Lays at title out.old out.new result };
+
+    fn lay(self, text: &[u8], out: &mut [u8], at: usize) -> usize
+        ensures { Lays at (line text.now self) out.old out.new result };
 }
 
 // Lays the bytes and the one byte that ends them.
@@ -80,102 +86,87 @@ fn lay_parent(parent: u32, out: &mut [u8], at: usize) -> usize
     lay_number(parent as usize, b' ', out, at)
 }
 
-fn lay_component(text: &[u8], row: ComponentRow, out: &mut [u8], at: usize) -> usize
-    ensures { Lays at (listed_component text.now row) out.old out.new result }
-{
-    let name = octets::view(text, row.name_start as usize, row.name_len as usize);
-    let to = lay_parent(row.parent, out, at);
-    let to = lay_number(row.depth as usize, b' ', out, to);
-    lay_field(name, b'\n', out, to)
-}
+impl Listed for ComponentRow {
+    ghost title = { heading Components };
 
-fn lay_property(text: &[u8], row: PropertyRow, out: &mut [u8], at: usize) -> usize
-    ensures { Lays at (listed_property text.now row) out.old out.new result }
-{
-    let key = octets::view(text, row.key_start as usize, row.key_len as usize);
-    let value = octets::view(text, row.value_start as usize, row.value_len as usize);
-    let to = lay_number(row.owner as usize, b' ', out, at);
-    let to = lay_field(key, b' ', out, to);
-    lay_field(value, b'\n', out, to)
-}
+    ghost line = { listed_component };
 
-fn lay_parameter(text: &[u8], row: ParameterRow, out: &mut [u8], at: usize) -> usize
-    ensures { Lays at (listed_parameter text.now row) out.old out.new result }
-{
-    let key = octets::view(text, row.key_start as usize, row.key_len as usize);
-    let value = octets::view(text, row.value_start as usize, row.value_len as usize);
-    let to = lay_number(row.property as usize, b' ', out, at);
-    if row.present == 0 {
-        return lay_field(key, b'\n', out, to);
+    fn lay_heading(out: &mut [u8], at: usize) -> usize {
+        lay_field(b"components", b' ', out, at)
     }
-    let to = lay_field(key, b'=', out, to);
-    lay_field(value, b'\n', out, to)
-}
 
-// Lays the line of one row, which the table has.
-fn lay_row(
-    which: Section,
-    text: &[u8],
-    table: &[u32],
-    row: usize,
-    out: &mut [u8],
-    at: usize,
-) -> usize
-    requires { row < length table.now / row_size which }
-    ensures { Lays at (listed_row which text.now table.now row) out.old out.new result }
-{
-    match which {
-        Section::Components => lay_component(text, tables::component_at(table, row), out, at),
-        Section::Properties => lay_property(text, tables::property_at(table, row), out, at),
-        Section::Parameters => lay_parameter(text, tables::parameter_at(table, row), out, at),
+    fn lay(self, text: &[u8], out: &mut [u8], at: usize) -> usize {
+        let name = octets::view(text, self.name_start as usize, self.name_len as usize);
+        let to = lay_parent(self.parent, out, at);
+        let to = lay_number(self.depth as usize, b' ', out, to);
+        lay_field(name, b'\n', out, to)
     }
 }
 
-fn lay_rows(
-    which: Section,
-    text: &[u8],
-    table: &[u32],
-    count: usize,
-    out: &mut [u8],
-    at: usize,
-) -> usize
-    requires { count ≤ length table.now / row_size which }
-    ensures { Lays at (listed_rows (listed_row which text.now table.now) 0 count) out.old out.new result }
+impl Listed for PropertyRow {
+    ghost title = { heading Properties };
+
+    ghost line = { listed_property };
+
+    fn lay_heading(out: &mut [u8], at: usize) -> usize {
+        lay_field(b"properties", b' ', out, at)
+    }
+
+    fn lay(self, text: &[u8], out: &mut [u8], at: usize) -> usize {
+        let key = octets::view(text, self.key_start as usize, self.key_len as usize);
+        let value = octets::view(text, self.value_start as usize, self.value_len as usize);
+        let to = lay_number(self.owner as usize, b' ', out, at);
+        let to = lay_field(key, b' ', out, to);
+        lay_field(value, b'\n', out, to)
+    }
+}
+
+impl Listed for ParameterRow {
+    ghost title = { heading Parameters };
+
+    ghost line = { listed_parameter };
+
+    fn lay_heading(out: &mut [u8], at: usize) -> usize {
+        lay_field(b"parameters", b' ', out, at)
+    }
+
+    fn lay(self, text: &[u8], out: &mut [u8], at: usize) -> usize {
+        let key = octets::view(text, self.key_start as usize, self.key_len as usize);
+        let value = octets::view(text, self.value_start as usize, self.value_len as usize);
+        let to = lay_number(self.property as usize, b' ', out, at);
+        if self.present == 0 {
+            return lay_field(key, b'\n', out, to);
+        }
+        let to = lay_field(key, b'=', out, to);
+        lay_field(value, b'\n', out, to)
+    }
+}
+
+fn lay_rows<R: Listed>(text: &[u8], table: &[u32], count: usize, out: &mut [u8], at: usize) -> usize
+    requires { count ≤ length table.now / R.WORDS }
+    ensures { Lays at (listed_rows (λ n. R.line text.now (row_at R.WORDS R.from table.now n)) 0 count) out.old out.new result }
 {
     let mut to = at;
-    let mut row: usize = 0;
-    while row < count {
-        to = lay_row(which, text, table, row, out, to);
-        row += 1;
+    for row in 0..count {
+        to = R::at(table, row).lay(text, out, to);
     }
     to
 }
 
-fn lay_heading(which: Section, out: &mut [u8], at: usize) -> usize
-    ensures { Lays at (heading which) out.old out.new result }
-{
-    match which {
-        Section::Components => lay_field(b"components", b' ', out, at),
-        Section::Properties => lay_field(b"properties", b' ', out, at),
-        Section::Parameters => lay_field(b"parameters", b' ', out, at),
-    }
-}
-
 // Lays the rows of one table after their count.
-fn lay_section(
-    which: Section,
+fn lay_section<R: Listed>(
     text: &[u8],
     table: &[u32],
     count: usize,
     out: &mut [u8],
     at: usize,
 ) -> usize
-    requires { count ≤ length table.now / row_size which }
-    ensures { Lays at (section_text which text.now table.now count) out.old out.new result }
+    requires { count ≤ length table.now / R.WORDS }
+    ensures { Lays at (section R.title (λ n. R.line text.now (row_at R.WORDS R.from table.now n)) count) out.old out.new result }
 {
-    let to = lay_heading(which, out, at);
+    let to = R::lay_heading(out, at);
     let to = lay_number(count, b'\n', out, to);
-    lay_rows(which, text, table, count, out, to)
+    lay_rows::<R>(text, table, count, out, to)
 }
 
 // Lays the one line of a refusal: the word, and the six numbers of the reading.
@@ -203,12 +194,12 @@ fn lay_listing(
     requires { HasRows r (lent text.now components.now properties.now parameters.now) }
     ensures { Lays 0 (listed r (lent text.now components.now properties.now parameters.now)) out.old out.new result }
 {
-    if r.answer != octets::DONE {
+    if !r.is_done() {
         return lay_refusal(r, out);
     }
-    let to = lay_section(Section::Components, text, components, r.components, out, 0);
-    let to = lay_section(Section::Properties, text, properties, r.properties, out, to);
-    lay_section(Section::Parameters, text, parameters, r.parameters, out, to)
+    let to = lay_section::<ComponentRow>(text, components, r.components, out, 0);
+    let to = lay_section::<PropertyRow>(text, properties, r.properties, out, to);
+    lay_section::<ParameterRow>(text, parameters, r.parameters, out, to)
 }
 
 // Reads a feed into the text and the tables by the two calls in turn: what measuring refuses, or what filling answers.
@@ -224,11 +215,10 @@ fn read_in_turn(
         ≡ left feed.now (lent text.old components.old properties.old parameters.old) }
 {
     let measured = reading::measure_components(feed, text);
-    if measured.answer != octets::DONE {
+    if !measured.is_done() {
         return measured;
     }
-    let n = measured.length;
-    reading::fill_components(&text[0..n], components, properties, parameters)
+    reading::fill_components(&text[..measured.length], components, properties, parameters)
 }
 
 // Lists a feed into `out` as far as it goes, and counts the listing's bytes in full. The feed is read into the text and the tables.
@@ -246,15 +236,7 @@ pub fn list(
         ≡ left_listed feed.now (lent text.old components.old properties.old parameters.old) }
 {
     if LONGEST < feed.len() {
-        let r = Reading {
-            answer: octets::TOO_LONG,
-            place: 0,
-            length: 0,
-            components: 0,
-            properties: 0,
-            parameters: 0,
-        };
-        return lay_refusal(r, out);
+        return lay_refusal(Reading::refusal(octets::TOO_LONG, 0, 0), out);
     }
     let r = read_in_turn(feed, text, components, properties, parameters);
     lay_listing(r, text, components, properties, parameters, out)

@@ -11,31 +11,32 @@ use Rattle.lines.specs.Rule.{line_of}
 use Rattle.lines.specs.declared.Fault.TheVariants.{ReservedKey, EmptyKey, StrayByte}
 use Rattle.nesting.specs.Steps.{read_lines, outcome_of}
 use Rattle.nesting.specs.declared.Refusal.{Refusal}
-use Rattle.nesting.specs.declared.Outcome.TheVariants.{Read, Refused}
+use Rattle.std.specs.Prelude.{Ok, Err}
+use Rattle.nesting.specs.Steps.{refused_at}
 
 -- "the name is compared exactly": END does not close in another case, by a part of the name, or with more behind it
 ends : map outcome_of (bytes "BEGIN:A\nEND:A\n" ∷ bytes "BEGIN:A\nEND:a\n" ∷ bytes "BEGIN:AB\nEND:A\n" ∷ bytes "BEGIN:A\nEND:AB\n" ∷ [])
-    ≡ Read (record { components = 1; properties = 0; parameters = 0 })
-    ∷ Refused Refusal.BadEnd 8
-    ∷ Refused Refusal.BadEnd 9
-    ∷ Refused Refusal.BadEnd 8
+    ≡ Ok (record { components = 1; properties = 0; parameters = 0 })
+    ∷ Err (refused_at Refusal.BadEnd 8)
+    ∷ Err (refused_at Refusal.BadEnd 9)
+    ∷ Err (refused_at Refusal.BadEnd 8)
     ∷ []
 unfolding bytes runs.run same_bytes starts_word front_of params_after params_used lines_after line_of read_lines outcome_of
 ends = refl
 
 -- "any other line with nothing open" is Outside, also one that breaks the property rule; inside it is refused for its fault; all are met at the "line start"
 outside : map outcome_of (bytes "K:v\n" ∷ bytes "\n:v\n" ∷ bytes "BEGIN:A\n:v\n" ∷ bytes "BEGIN:A\nend\n" ∷ bytes "BEGIN:A\nK v\n" ∷ [])
-    ≡ Refused Refusal.Outside 0
-    ∷ Refused Refusal.Outside 1
-    ∷ Refused (Refusal.Line EmptyKey) 8
-    ∷ Refused (Refusal.Line ReservedKey) 8
-    ∷ Refused (Refusal.Line (StrayByte 1)) 8
+    ≡ Err (refused_at Refusal.Outside 0)
+    ∷ Err (refused_at Refusal.Outside 1)
+    ∷ Err (refused_at (Refusal.Line EmptyKey) 8)
+    ∷ Err (refused_at (Refusal.Line ReservedKey) 8)
+    ∷ Err (refused_at (Refusal.Line (StrayByte 1)) 8)
     ∷ []
 unfolding bytes runs.run same_bytes starts_word front_of params_after params_used lines_after line_of read_lines outcome_of
 outside = refl
 
 -- "end of text with a component open": its place is the "text length"; so is that of "no line but empty ones"
 at_the_end : map outcome_of (bytes "BEGIN:A\n" ∷ bytes "BEGIN:A\nBEGIN:B\nEND:B" ∷ bytes "\n\r\n" ∷ [])
-    ≡ Refused Refusal.Unclosed 8 ∷ Refused Refusal.Unclosed 21 ∷ Refused Refusal.NoComponent 3 ∷ []
+    ≡ Err (refused_at Refusal.Unclosed 8) ∷ Err (refused_at Refusal.Unclosed 21) ∷ Err (refused_at Refusal.NoComponent 3) ∷ []
 unfolding bytes runs.run same_bytes starts_word front_of params_after params_used lines_after line_of read_lines outcome_of
 at_the_end = refl

@@ -16,28 +16,28 @@ use Rattle.lines.specs.Sound.{Sound}
 use Rattle.lines.specs.declared.Line.{Line}
 use Rattle.lines.proofs.Split.{line_within, content_within}
 use Rattle.lines.proofs.Sound.{sound}
-use Rattle.nesting.specs.Steps.{State, nothing, check_of, after, Run, finished, stopped, onward, read_lines, run_of}
-use Rattle.nesting.specs.declared.Check.{Check}
+use Rattle.nesting.specs.Steps.{fine, State, nothing, check_of, after, Run, finished, stopped, onward, read_lines, run_of}
+use Rattle.std.specs.Prelude.{Result, Ok, Err}
 use Rattle.nesting.specs.declared.Entry.{Entry}
 use Rattle.nesting.specs.declared.Refusal.{Refusal}
 
 -- a run that goes to the end goes on behind its first line
-pub goes_on : (c : Check) (place : ℕ) (r : Run) (s : State) → onward c place r ≡ finished s → (c ≡ Check.Fine) × (r ≡ finished s)
-goes_on Check.Fine place r s e = (refl, e)
-goes_on (Check.Bad x) place r s e = absurd (let z : ◌≡◌ {A = ℕ} 0 1 = cc in omega arith)
+pub goes_on : (c : Result Unit Refusal) (place : ℕ) (r : Run) (s : State) → onward c place r ≡ finished s → (c ≡ fine) × (r ≡ finished s)
+goes_on (Ok tt) place r s e = (refl, e)
+goes_on (Err x) place r s e = absurd (let z : ◌≡◌ {A = ℕ} 0 1 = cc in omega arith)
 
 -- a BEGIN that may stand where it does is not too deep
-pub deep : (es : List Entry) → pick (ltb (length es) deepest) Check.Fine (Check.Bad Refusal.TooDeep) ≡ Check.Fine → length es < deepest
+pub deep : (es : List Entry) → pick (ltb (length es) deepest) fine (Err Refusal.TooDeep) ≡ fine → length es < deepest
 deep es c = go (ltb (length es) deepest) refl c
   where
-    go : (t : Bool) → ltb (length es) deepest ≡ t → pick t Check.Fine (Check.Bad Refusal.TooDeep) ≡ Check.Fine → length es < deepest
+    go : (t : Bool) → ltb (length es) deepest ≡ t → pick t fine (Err Refusal.TooDeep) ≡ fine → length es < deepest
     go true x c = ltb-true (length es) deepest x
     go false x c = absurd (let z : ◌≡◌ {A = ℕ} 0 1 = cc in omega arith)
 
 -- of a state and how many bytes are read
 module _ (text : List ℕ) (Holds : ℕ → State → Type 0) (further : (at at' : ℕ) (s : State) → at ≤ at' → Holds at s → Holds at' s)
     (step : (at : ℕ) (s : State) → Holds at s → (line : List ℕ) → at + length line ≤ length text → (l : Line) → Sound line l
-    → check_of text line l s.opens ≡ Check.Fine → Holds (at + length line) (after at line l s)) where
+    → check_of text line l s.opens ≡ fine → Holds (at + length line) (after at line l s)) where
   along : (at k : ℕ) (xs : List ℕ) → at + length xs ≡ length text → k ≤ length xs → (s end : State) → Holds (at + k) s
       → read_lines text (lines_after at k xs) s ≡ finished end → Holds (length text) end
   unfolding read_lines lines_after
@@ -62,7 +62,7 @@ pub record RefusedAt (text : List ℕ) (r : Refusal) (start : ℕ) : Type 0 wher
   pub line : List ℕ
   pub opens : List Entry
   pub inside : start + length line ≤ length text
-  pub refused : check_of text line (line_of line) opens ≡ Check.Bad r
+  pub refused : check_of text line (line_of line) opens ≡ Err r
 
 module _ (text : List ℕ) (r : Refusal) (start : ℕ) where
   stops_at : (at k : ℕ) (xs : List ℕ) → at + length xs ≡ length text → (s : State) → read_lines text (lines_after at k xs) s ≡ stopped r start → RefusedAt text r start
@@ -80,17 +80,17 @@ module _ (text : List ℕ) (r : Refusal) (start : ℕ) where
       rest : Run
       rest = read_lines text (lines_after (at + 1) (line_len (x ∷ xs) - 1) xs) next
 
-      go : (c : Check) → check_of text line (line_of line) s.opens ≡ c → onward c at rest ≡ stopped r start → (rest ≡ stopped r start → RefusedAt text r start)
+      go : (c : Result Unit Refusal) → check_of text line (line_of line) s.opens ≡ c → onward c at rest ≡ stopped r start → (rest ≡ stopped r start → RefusedAt text r start)
           → RefusedAt text r start
-      go Check.Fine c e ih = ih e
-      go (Check.Bad y) c e ih =
+      go (Ok tt) c e ih = ih e
+      go (Err y) c e ih =
           let same : y ≡ r = cc in
           let here : at ≡ start = cc in
           record {
             line = line;
             opens = s.opens;
             inside = omega (arith, length-take (content_len (x ∷ xs)) (x ∷ xs));
-            refused = c ∙ ap Check.Bad same;
+            refused = c ∙ ap Err same;
           }
   stops_at at (suc k) (x ∷ xs) h s e = stops_at (at + 1) k xs (omega arith) s e
 

@@ -7,7 +7,7 @@ use native.Mathlib.Omega.{arith}
 use lib.ListN.{length, drop, drop_of_length-le, length-drop}
 use lib.Seq.{drop-drop}
 use Rattle.parameters.specs.declared.Param.{Param}
-use Rattle.parameters.specs.declared.Front.TheVariants.{NoParameter, Found}
+use Rattle.std.specs.Prelude.{Some, None}
 use Rattle.parameters.specs.Parameter.{front_of}
 use Rattle.parameters.specs.Parameters.{moved, params_after}
 use Rattle.parameters.proofs.Laws.{found_inside}
@@ -19,13 +19,13 @@ use Rattle.nesting.specs.Rows.{parameter_row, rows_from}
 use Rattle.nesting.specs.Held.{put_rows}
 
 module _ (property start : ℕ) (line : List ℕ) where
-  rows_found : (at : ℕ) (p : Param) → front_of (drop at line) ≡ Found p
+  rows_found : (at : ℕ) (p : Param) → front_of (drop at line) ≡ Some p
       → rows_from property start at line ≡ parameter_row property (moved (start + at) p) ∷ rows_from property start (at + p.used) line
   rows_found at p h =
       ap (map (parameter_row property)) (turn (start + at) (drop at line) p h)
       ∙ rw (drop-drop p.used at line, add_assoc start at p.used)
 
-  rows_none : (at : ℕ) → front_of (drop at line) ≡ NoParameter → rows_from property start at line ≡ []
+  rows_none : (at : ℕ) → front_of (drop at line) ≡ None → rows_from property start at line ≡ []
   rows_none at h = ap (map (parameter_row property)) (stop (start + at) (drop at line) h)
 
   rows_end : (at : ℕ) → length line ≤ at → rows_from property start at line ≡ []
@@ -44,7 +44,7 @@ module _ (property start : ℕ) (line : List ℕ) where
     put_rows_holds : {a b : List ParameterRow} → a ≡ b → put_rows parameter_size parameter_words row a now ≡ put_rows parameter_size parameter_words row b now
     put_rows_holds e = ap (λ (rows : List ParameterRow). put_rows parameter_size parameter_words row rows now) e
 
-    pub more : (p : Param) → front_of (drop at line) ≡ Found p → (next : List ℕ)
+    pub more : (p : Param) → front_of (drop at line) ≡ Some p → (next : List ℕ)
         → next ≡ put_row parameter_size row (parameter_words (parameter_row property (moved (start + at) p))) now
         → Putting from first old next (at + p.used) (row + 1)
     unfolding put_rows
@@ -57,7 +57,7 @@ module _ (property start : ℕ) (line : List ℕ) where
           is = rw e (sym (put_rows_holds (rows_found at p h)) ∙ so.is);
         }
 
-    pub none : front_of (drop at line) ≡ NoParameter → now ≡ put_rows parameter_size parameter_words first (rows_from property start from line) old
+    pub none : front_of (drop at line) ≡ None → now ≡ put_rows parameter_size parameter_words first (rows_from property start from line) old
     unfolding put_rows
     none h = sym (put_rows_holds (rows_none at h)) ∙ so.is
 

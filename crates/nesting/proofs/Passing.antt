@@ -8,7 +8,7 @@ use native.Mathlib.Omega.{arith}
 use lib.Dec.{ltb}
 use borrow.Author.Tests.{ltb-true}
 use Rattle.octets.specs.Choice.{pick}
-use lib.ListN.{length, get_or, take, drop, length-append, length-take, length-drop, length-map}
+use lib.ListN.{length, take, drop, length-append, length-take, length-drop, length-map}
 use Rattle.octets.specs.Answers.{deepest}
 use Rattle.octets.specs.declared.Span.{Span}
 use Rattle.parameters.specs.Parameters.{moved, params_after}
@@ -19,41 +19,36 @@ use Rattle.lines.specs.Split.{Placed, content_len, line_len, extent_of, lines_fr
 use Rattle.lines.specs.declared.Extent.{Extent}
 use Rattle.lines.specs.Rule.{line_of, after_begin}
 use Rattle.lines.specs.declared.Line.{Line}
-use Rattle.lines.specs.declared.Line.TheVariants.{Begin, End, Content}
+use Rattle.lines.specs.declared.Line.TheVariants.{Empty, Begin, BadBegin, End, Content, Bad}
+use Rattle.lines.specs.declared.Fault.{Fault}
+use Rattle.std.proofs.Common.{◌⊎◌, inl, inr}
 use Rattle.lines.specs.declared.Property.{Property}
 use Rattle.lines.proofs.Split as split
 use Rattle.lines.specs.Sound.{Sound, SoundProperty}
 use Rattle.lines.proofs.Sound.{sound}
-use Rattle.nesting.specs.declared.Check.{Check}
+use Rattle.std.specs.Prelude.{Err}
 use Rattle.nesting.specs.declared.Counts.{Counts}
 use Rattle.nesting.specs.declared.Entry.{Entry}
-use Rattle.nesting.specs.declared.Open.{Open}
-use Rattle.nesting.specs.declared.Outcome.{Outcome}
 use Rattle.nesting.specs.declared.Refusal.{Refusal}
-use Rattle.nesting.specs.Rows.{no_entry, entry, top, component_row, property_row, parameter_row, parameter_rows}
-use Rattle.nesting.specs.Steps.{State, nothing, finished, stopped, closes, check_of, closed, after, onward, read_lines, run_of, ended_at, outcome_of, counts_of, component_counted, property_counted}
-use Rattle.nesting.specs.Held.{zero_entry, stack, opened, top_of, Innermost, put_rows, Tabled}
-use Rattle.nesting.proofs.Stacks.{length_stack, topmost}
+use Rattle.nesting.specs.Rows.{entry, top, component_row, property_row, parameter_row, parameter_rows}
+use Rattle.nesting.specs.Steps.{fine, State, nothing, finished, stopped, refused_at, check_of, closed, after, onward, read_lines, run_of, ended_at, outcome_of, counts_of, component_counted, property_counted}
+use Rattle.nesting.specs.Held.{put_rows, Tabled}
 use Rattle.nesting.proofs.Tables.{put_one, put_more, length_rows_put}
 
 -- the tables c, p and q hold the rows of s, which the lines before `at` gave; the lines from `at` on lead to where the whole text leads
-pub record Reached (text c₀ p₀ q₀ : List ℕ) (s : State) (c p q : List ℕ) (o : Open) (n : Counts) (at : ℕ) : Type 0 where
-  pub opens : opened o ≡ s.opens
-  pub depth : o.depth ≤ deepest
-  pub slots : length o.entries ≡ deepest
+pub record Reached (text c₀ p₀ q₀ : List ℕ) (s : State) (c p q : List ℕ) (opens : List Entry) (n : Counts) (at : ℕ) : Type 0 where
+  pub «open» : opens ≡ s.opens
   pub counts : n ≡ counts_of s
   pub few : n.components + (n.properties + n.parameters) ≤ at
   pub inside : at ≤ length text
   pub tabled : Tabled s c₀ p₀ q₀ c p q
   pub leads : read_lines text (lines_from at text) s ≡ run_of text
 
-pub start : (text c p q : List ℕ) (o : Open) → opened o ≡ [] → length o.entries ≡ deepest → Reached text c p q nothing c p q o (counts_of nothing) 0
+pub start : (text c p q : List ℕ) → Reached text c p q nothing c p q [] (counts_of nothing) 0
 unfolding put_rows
-start text c p q o e slots =
+start text c p q =
     record {
-      opens = e;
-      depth = omega (arith, ap length e, length_stack o.entries o.depth);
-      slots = slots;
+      «open» = refl;
       counts = refl;
       few = omega arith;
       inside = omega arith;
@@ -62,8 +57,8 @@ start text c p q o e slots =
     }
 
 -- the same of an equal place
-pub moved_to : {text c₀ p₀ q₀ : List ℕ} {s : State} {c p q : List ℕ} {o : Open} {n : Counts} {at at' : ℕ}
-    → at ≡ at' → Reached text c₀ p₀ q₀ s c p q o n at' → Reached text c₀ p₀ q₀ s c p q o n at
+pub moved_to : {text c₀ p₀ q₀ : List ℕ} {s : State} {c p q : List ℕ} {opens : List Entry} {n : Counts} {at at' : ℕ}
+    → at ≡ at' → Reached text c₀ p₀ q₀ s c p q opens n at' → Reached text c₀ p₀ q₀ s c p q opens n at
 moved_to e so = rw e so
 
 -- the content of the line at `at`
@@ -103,29 +98,13 @@ next_inside text at h = omega (arith, split.line_within (drop at text), length-d
 pub content_inside : (text : List ℕ) (at : ℕ) → at ≤ length text → at + length (content_at text at) ≤ length text
 content_inside text at h = omega (arith, content_length text at, next_inside text at h)
 
--- the open ones as the code holds them: how many, and the innermost
-top_none : (entries : List Entry) (d : ℕ) (opens : List Entry) → stack entries d ≡ opens → d ≡ 0 → no_entry ≡ top_of opens
-unfolding stack
-top_none entries d opens e z = rw z at (ap top_of e)
-
-top_some : (entries : List Entry) (d i : ℕ) (opens : List Entry) → stack entries d ≡ opens → d ≡ i + 1 → get_or entries i zero_entry ≡ top_of opens
-top_some entries d i opens e z = ap top_of (sym (topmost entries i d z)) ∙ ap top_of e
-
-pub top_row : (opens : List Entry) → (top_of opens).row ≡ top opens
-top_row [] = refl
-top_row (e ∷ es) = refl
-
-opens_fewer : (opens : List Entry) → pick (ltb (length opens) deepest) Check.Fine (Check.Bad Refusal.TooDeep) ≡ Check.Fine → length opens < deepest
+-- a BEGIN is fine only where not all levels are open
+opens_fewer : (opens : List Entry) → pick (ltb (length opens) deepest) fine (Err Refusal.TooDeep) ≡ fine → length opens < deepest
 opens_fewer opens f = go (ltb (length opens) deepest) refl f
   where
-    go : (t : Bool) → ltb (length opens) deepest ≡ t → pick t Check.Fine (Check.Bad Refusal.TooDeep) ≡ Check.Fine → length opens < deepest
+    go : (t : Bool) → ltb (length opens) deepest ≡ t → pick t fine (Err Refusal.TooDeep) ≡ fine → length opens < deepest
     go true e f = ltb-true (length opens) deepest e
     go false e f = let z : ◌≡◌ {A = ℕ} 0 1 = cc in absurd (omega arith)
-
--- a BEGIN is sound only where not all levels are open, and an END only where one is
-opens_some : (text rest : List ℕ) (opens : List Entry) → closes text rest opens ≡ Check.Fine → length opens ≡ length (closed opens) + 1
-opens_some text rest [] f = let z : ◌≡◌ {A = ℕ} 0 1 = cc in absurd (omega arith)
-opens_some text rest (e ∷ es) f = omega arith
 
 -- the parameters are as many, seen from the text as from behind the key
 rows_count : (property start : ℕ) (line : List ℕ) (p : Property) → SoundProperty line p → length (parameter_rows property start line p) ≡ p.parameters
@@ -136,6 +115,13 @@ rows_count property start line p sound =
     ∙ length-map (params_after 0 0 (drop p.key.len line)) (moved (start + p.key.len))
     ∙ sym sound.count
 
+-- a line that is no BEGIN, no END and no property
+pub adds_nothing : (at : ℕ) (content : List ℕ) (line : Line) (s : State)
+    → (line ≡ Empty) ⊎ ((line ≡ BadBegin) ⊎ ((f : Fault) × (line ≡ Bad f))) → after at content line s ≡ s
+adds_nothing at content line s (inl e) = rw e
+adds_nothing at content line s (inr (inl e)) = rw e
+adds_nothing at content line s (inr (inr e)) = rw e.1
+
 abbrev tally : ℕ → ℕ → ℕ → Counts
 tally components properties parameters = record { components = components; properties = properties; parameters = parameters }
 
@@ -145,24 +131,15 @@ counted e f g = cc
 abbrev total : Counts → ℕ
 total n = n.components + (n.properties + n.parameters)
 
-pub refused_outcome : (text : List ℕ) (r : Refusal) (place : ℕ) → run_of text ≡ stopped r place → Outcome.Refused r place ≡ outcome_of text
+pub refused_outcome : (text : List ℕ) (r : Refusal) (place : ℕ) → run_of text ≡ stopped r place → Err (refused_at r place) ≡ outcome_of text
 unfolding outcome_of
 refused_outcome text r place e = rw e
 
 pub never_finished : {X : Type 0} (text : List ℕ) (r : Refusal) (place : ℕ) (t : State) → run_of text ≡ stopped r place → run_of text ≡ finished t → X
 never_finished text r place t e f = let z : ◌≡◌ {A = ℕ} 0 1 = cc in absurd (omega arith)
 
-module _ {text c₀ p₀ q₀ : List ℕ} {s : State} {c p q : List ℕ} {o : Open} {n : Counts} {at : ℕ}
-    (so : Reached text c₀ p₀ q₀ s c p q o n at) where
-  depth_is : o.depth ≡ length s.opens
-  depth_is = sym (length_stack o.entries o.depth) ∙ ap length so.opens
-
-  pub innermost_none : o.depth ≡ 0 → Innermost o.depth no_entry s.opens
-  innermost_none z = record { depth = depth_is; top = top_none o.entries o.depth s.opens so.opens z }
-
-  pub innermost_some : (o.depth ≡ 0 → ⊥) → Innermost o.depth (get_or o.entries (o.depth - 1) zero_entry) s.opens
-  innermost_some z = record { depth = depth_is; top = top_some o.entries o.depth (o.depth - 1) s.opens so.opens (omega arith) }
-
+module _ {text c₀ p₀ q₀ : List ℕ} {s : State} {c p q : List ℕ} {opens : List Entry} {n : Counts} {at : ℕ}
+    (so : Reached text c₀ p₀ q₀ s c p q opens n at) where
   pub same_components : length c ≡ length c₀
   same_components = ap length so.tabled.components ∙ length_rows_put component_size component_words 0 s.components c₀
 
@@ -178,9 +155,9 @@ module _ {text c₀ p₀ q₀ : List ℕ} {s : State} {c p q : List ℕ} {o : Op
   finish h = sym so.leads ∙ ap (λ (ls : List Placed). read_lines text ls s) (split.ended text at h)
 
   module _ (e : run_of text ≡ finished s) where
-    pub ended_outcome : ended_at o.depth n (length text) ≡ outcome_of text
+    pub ended_outcome : ended_at (length opens) n (length text) ≡ outcome_of text
     unfolding outcome_of
-    ended_outcome = rw (e, depth_is, so.counts)
+    ended_outcome = rw (e, so.«open», so.counts)
 
     pub ends_tabled : (t : State) → run_of text ≡ finished t → Tabled t c₀ p₀ q₀ c p q
     ends_tabled t f = let same : s ≡ t = cc in rw same at so.tabled
@@ -190,11 +167,11 @@ module _ {text c₀ p₀ q₀ : List ℕ} {s : State} {c p q : List ℕ} {o : Op
     next = at + line_len (drop at text)
 
     -- a line that is refused ends the reading
-    pub refuses : (r : Refusal) → check_of text (content_at text at) line s.opens ≡ Check.Bad r → run_of text ≡ stopped r at
+    pub refuses : (r : Refusal) → check_of text (content_at text at) line s.opens ≡ Err r → run_of text ≡ stopped r at
     refuses r f =
         sym so.leads ∙ turn text at s h ∙ rw (sym is, f)
 
-    pub goes_on : check_of text (content_at text at) line s.opens ≡ Check.Fine
+    pub goes_on : check_of text (content_at text at) line s.opens ≡ fine
         → read_lines text (lines_from next text) (after at (content_at text at) line s) ≡ run_of text
     goes_on f = sym (sym so.leads ∙ turn text at s h ∙ rw (sym is, f))
 
@@ -202,13 +179,11 @@ module _ {text c₀ p₀ q₀ : List ℕ} {s : State} {c p q : List ℕ} {o : Op
     sounds = rw is (sound (content_at text at))
 
     -- a line that adds nothing
-    pub passes : (kind : Line) → line ≡ kind → after at (content_at text at) kind s ≡ s → check_of text (content_at text at) line s.opens ≡ Check.Fine
-        → Reached text c₀ p₀ q₀ s c p q o n next
+    pub passes : (kind : Line) → line ≡ kind → after at (content_at text at) kind s ≡ s → check_of text (content_at text at) line s.opens ≡ fine
+        → Reached text c₀ p₀ q₀ s c p q opens n next
     passes kind e same f =
         record {
-          opens = so.opens;
-          depth = so.depth;
-          slots = so.slots;
+          «open» = so.«open»;
           counts = so.counts;
           few = omega (arith, so.few);
           inside = next_inside text at so.inside;
@@ -226,12 +201,12 @@ module _ {text c₀ p₀ q₀ : List ℕ} {s : State} {c p q : List ℕ} {o : Op
           let w = property_sound in
           omega (arith, so.few, w.fewer, w.some, content_inside text at so.inside)
 
-      pub adds_property : check_of text (content_at text at) line s.opens ≡ Check.Fine → (owner : ℕ) → owner ≡ top s.opens
+      pub adds_property : check_of text (content_at text at) line s.opens ≡ fine → (owner : ℕ) → owner ≡ top s.opens
           → (p' q' : List ℕ) (n' : Counts)
           → p' ≡ put_row property_size n.properties (property_words (property_row owner at g)) p
           → q' ≡ put_rows parameter_size parameter_words n.parameters (parameter_rows n.properties at (content_at text at) g) q
           → n' ≡ property_counted g.parameters n
-          → Reached text c₀ p₀ q₀ (after at (content_at text at) (Content g) s) c p' q' o n' next
+          → Reached text c₀ p₀ q₀ (after at (content_at text at) (Content g) s) c p' q' opens n' next
       adds_property f owner own p' q' n' ep eq en =
           let w = property_sound in
           let np : n.properties ≡ length s.properties = ap (λ (k : Counts). k.properties) so.counts in
@@ -241,9 +216,7 @@ module _ {text c₀ p₀ q₀ : List ℕ} {s : State} {c p q : List ℕ} {o : Op
           let mq : n.parameters + g.parameters ≡ length (s.parameters ++ parameter_rows (length s.properties) at (content_at text at) g) =
           rw (length-append, rows_count (length s.properties) at (content_at text at) g w) (omega arith) in
           record {
-            opens = so.opens;
-            depth = so.depth;
-            slots = so.slots;
+            «open» = so.«open»;
             counts = en ∙ counted nc mp mq;
             few = omega (arith, so.few, w.fewer, w.some, content_length text at, ap total en);
             inside = next_inside text at so.inside;
@@ -264,30 +237,27 @@ module _ {text c₀ p₀ q₀ : List ℕ} {s : State} {c p q : List ℕ} {o : Op
       pub begin_inside : at + (name.start + name.len) ≤ length text
       begin_inside = omega (arith, begin_sound.0, begin_sound.1, content_inside text at so.inside)
 
-      pub begin_shallow : check_of text (content_at text at) line s.opens ≡ Check.Fine → o.depth < deepest
-      begin_shallow f = omega (arith, opens_fewer s.opens (rw kind at f), depth_is)
+      pub begin_shallow : check_of text (content_at text at) line s.opens ≡ fine → length opens < deepest
+      begin_shallow f = rw so.«open» (opens_fewer s.opens (rw kind at f))
 
-      pub adds_component : check_of text (content_at text at) line s.opens ≡ Check.Fine → (parent : ℕ) → parent ≡ top s.opens
-          → (e : Entry) → e ≡ entry n.components at name → (c' : List ℕ) (o' : Open) (n' : Counts)
-          → c' ≡ put_row component_size n.components (component_words (component_row parent (o.depth + 1) e)) c
-          → opened o' ≡ e ∷ opened o → o'.depth ≡ o.depth + 1 → length o'.entries ≡ length o.entries
+      pub adds_component : check_of text (content_at text at) line s.opens ≡ fine → (parent : ℕ) → parent ≡ top s.opens
+          → (e : Entry) → e ≡ entry n.components at name → (c' : List ℕ) (n' : Counts)
+          → c' ≡ put_row component_size n.components (component_words (component_row parent (length opens + 1) e)) c
           → n' ≡ component_counted n
-          → Reached text c₀ p₀ q₀ (after at (content_at text at) (Begin name) s) c' p q o' n' next
-      adds_component f parent own e ee c' o' n' ec eo ed es en =
+          → Reached text c₀ p₀ q₀ (after at (content_at text at) (Begin name) s) c' p q (e ∷ opens) n' next
+      adds_component f parent own e ee c' n' ec en =
           let nc : n.components ≡ length s.components = ap (λ (k : Counts). k.components) so.counts in
           let np : n.properties ≡ length s.properties = ap (λ (k : Counts). k.properties) so.counts in
           let nq : n.parameters ≡ length s.parameters = ap (λ (k : Counts). k.parameters) so.counts in
           let mc : n.components + 1 ≡ length (s.components ++ component_row (top s.opens) (length s.opens + 1) (entry (length s.components) at name) ∷ []) =
           rw length-append (omega arith) in
-          let depth : o.depth + 1 ≡ length s.opens + 1 = omega (arith, depth_is) in
-          let row : component_row parent (o.depth + 1) e ≡ component_row (top s.opens) (length s.opens + 1) (entry (length s.components) at name) =
-          ap (λ (p : ℕ). component_row p (o.depth + 1) e) own
+          let depth : length opens + 1 ≡ length s.opens + 1 = rw so.«open» in
+          let row : component_row parent (length opens + 1) e ≡ component_row (top s.opens) (length s.opens + 1) (entry (length s.components) at name) =
+          ap (λ (p : ℕ). component_row p (length opens + 1) e) own
           ∙ (ap (λ (d : ℕ). component_row (top s.opens) d e) depth
           ∙ ap (λ (x : Entry). component_row (top s.opens) (length s.opens + 1) x) (ee ∙ ap (λ (k : ℕ). entry k at name) nc)) in
           record {
-            opens = eo ∙ cc;
-            depth = omega (arith, begin_shallow f);
-            slots = es ∙ so.slots;
+            «open» = rw (so.«open», ee, nc);
             counts = en ∙ counted mc np nq;
             few = omega (arith, so.few, begin_sound.1, content_length text at, ap total en);
             inside = next_inside text at so.inside;
@@ -304,22 +274,11 @@ module _ {text c₀ p₀ q₀ : List ℕ} {s : State} {c p q : List ℕ} {o : Op
 
     -- an END line
     module _ (rest : Span) (kind : line ≡ End rest) where
-      pub end_some : check_of text (content_at text at) line s.opens ≡ Check.Fine → 0 < o.depth
-      end_some f = omega (arith, opens_some text _ s.opens (rw kind at f), depth_is)
-
-      pub closes_one : check_of text (content_at text at) line s.opens ≡ Check.Fine → (o' : Open) → o'.entries ≡ o.entries → o'.depth ≡ o.depth - 1
-          → Reached text c₀ p₀ q₀ (after at (content_at text at) (End rest) s) c p q o' n next
-      closes_one f o' ee ed =
-          let t : opened o ≡ get_or o.entries (o.depth - 1) zero_entry ∷ stack o.entries (o.depth - 1) =
-          topmost o.entries (o.depth - 1) o.depth (omega (arith, end_some f)) in
+      pub closes_one : check_of text (content_at text at) line s.opens ≡ fine
+          → Reached text c₀ p₀ q₀ (after at (content_at text at) (End rest) s) c p q (closed opens) n next
+      closes_one f =
           record {
-            opens =
-                ap (λ (es : List Entry). stack es o'.depth) ee
-                ∙ ap (λ (d : ℕ). stack o.entries d) ed
-                ∙ sym (ap closed t)
-                ∙ ap closed so.opens;
-            depth = omega (arith, so.depth);
-            slots = ap length ee ∙ so.slots;
+            «open» = ap closed so.«open»;
             counts = so.counts;
             few = omega (arith, so.few);
             inside = next_inside text at so.inside;

@@ -1,10 +1,8 @@
 -- Serves inner contracts only. How the reader's state stands for what has been read.
 -- Assumes nothing.
-use Rattle.std.specs.Prelude.{ℕ, zero, suc, ◌+◌, ◌≡◌, List, [], ◌∷◌, length, get_or}
+use Rattle.std.specs.Prelude.{ℕ, zero, suc, ◌+◌, ◌≡◌, List, [], ◌∷◌, Option, Some, None, get_or}
 use Rattle.tables.specs.Rows.{put_row, component_size, property_size, parameter_size, component_words, property_words, parameter_words}
 use Rattle.nesting.specs.declared.Entry.{Entry}
-use Rattle.nesting.specs.declared.Open.{Open}
-use Rattle.nesting.specs.Rows.{no_entry}
 use Rattle.nesting.specs.Steps.{State}
 
 -- what an entry of the array reads past its end
@@ -16,17 +14,9 @@ unfoldable pub stack : List Entry → ℕ → List Entry
 stack entries zero = []
 stack entries (suc d) = get_or entries d zero_entry ∷ stack entries d
 
-abbrev pub opened : Open → List Entry
-opened o = stack o.entries o.depth
-
-abbrev pub top_of : List Entry → Entry
-top_of [] = no_entry
-top_of (e ∷ es) = e
-
--- so many are open, and the innermost is this one
-pub record Innermost (d : ℕ) (e : Entry) (opens : List Entry) : Type 0 where
-  pub depth : d ≡ length opens
-  pub top : e ≡ top_of opens
+abbrev pub innermost : List Entry → Option Entry
+innermost [] = None
+innermost (e ∷ es) = Some e
 
 -- rows put into a table one after the other, from row n on, each where there is room for it
 unfoldable pub put_rows : {A : Type 0} → ℕ → (A → List ℕ) → ℕ → List A → List ℕ → List ℕ

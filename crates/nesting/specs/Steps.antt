@@ -1,7 +1,7 @@
 -- The reading as a fold of one step over the lines (document 01, "Lines and nesting"): what a line is refused for where it stands,
 -- which components are open after it, and which rows it adds. Room for rows stands outside of it.
 -- Assumes nothing.
-use Rattle.std.specs.Prelude.{ℕ, ◌+◌, Bool, List, [], ◌∷◌, ◌++◌, length, eqb, ltb}
+use Rattle.std.specs.Prelude.{ℕ, ◌+◌, Bool, List, [], ◌∷◌, ◌++◌, Result, Ok, Err, length, eqb, ltb}
 use Rattle.octets.specs.Choice.{pick}
 use Rattle.octets.specs.Answers.{deepest}
 use Rattle.octets.specs.Views.{viewed}
@@ -16,9 +16,7 @@ use Rattle.tables.specs.declared.ParameterRow.{ParameterRow}
 use Rattle.nesting.specs.declared.Entry.{Entry}
 use Rattle.nesting.specs.declared.Counts.{Counts}
 use Rattle.nesting.specs.declared.Refusal.{Refusal}
-use Rattle.nesting.specs.declared.Check.{Check}
-use Rattle.nesting.specs.declared.Outcome.{Outcome}
-use Rattle.nesting.specs.declared.Outcome.TheVariants.{Read, Refused}
+use Rattle.nesting.specs.declared.Refused.{Refused}
 use Rattle.nesting.specs.Rows.{entry, top, component_row, property_row, parameter_rows}
 
 -- what has been read: the open components, innermost first, and the rows in order
@@ -35,22 +33,26 @@ nothing = record { opens = []; components = []; properties = []; parameters = []
 abbrev pub names : List ℕ → List ℕ → Entry → Bool
 names text rest e = same_bytes rest (viewed text e.start e.len)
 
-abbrev pub closes : List ℕ → List ℕ → List Entry → Check
-closes text rest [] = Check.Bad Refusal.BadEnd
-closes text rest (e ∷ es) = pick (names text rest e) Check.Fine (Check.Bad Refusal.BadEnd)
+-- a line may stand where it does
+abbrev pub fine : Result Unit Refusal
+fine = Ok tt
+
+abbrev pub closes : List ℕ → List ℕ → List Entry → Result Unit Refusal
+closes text rest [] = Err Refusal.BadEnd
+closes text rest (e ∷ es) = pick (names text rest e) fine (Err Refusal.BadEnd)
 
 -- any other line stands outside where nothing is open
-abbrev pub if_open : Check → List Entry → Check
-if_open check [] = Check.Bad Refusal.Outside
+abbrev pub if_open : Result Unit Refusal → List Entry → Result Unit Refusal
+if_open check [] = Err Refusal.Outside
 if_open check (e ∷ es) = check
 
-abbrev pub check_of : List ℕ → List ℕ → Line → List Entry → Check
-check_of text line Empty opens = Check.Fine
-check_of text line (Begin name) opens = pick (ltb (length opens) deepest) Check.Fine (Check.Bad Refusal.TooDeep)
-check_of text line BadBegin opens = Check.Bad Refusal.BadBegin
+abbrev pub check_of : List ℕ → List ℕ → Line → List Entry → Result Unit Refusal
+check_of text line Empty opens = fine
+check_of text line (Begin name) opens = pick (ltb (length opens) deepest) fine (Err Refusal.TooDeep)
+check_of text line BadBegin opens = Err Refusal.BadBegin
 check_of text line (End rest) opens = closes text (viewed line rest.start rest.len) opens
-check_of text line (Content p) opens = if_open Check.Fine opens
-check_of text line (Bad fault) opens = if_open (Check.Bad (Refusal.Line fault)) opens
+check_of text line (Content p) opens = if_open fine opens
+check_of text line (Bad fault) opens = if_open (Err (Refusal.Line fault)) opens
 
 abbrev pub closed : List Entry → List Entry
 closed [] = []
@@ -83,9 +85,9 @@ pub data Run : Type 0 where
   finished : State → Run
   stopped : Refusal → ℕ → Run
 
-abbrev pub onward : Check → ℕ → Run → Run
-onward Check.Fine start rest = rest
-onward (Check.Bad r) start rest = stopped r start
+abbrev pub onward : Result Unit Refusal → ℕ → Run → Run
+onward (Ok tt) start rest = rest
+onward (Err r) start rest = stopped r start
 
 unfoldable pub read_lines : List ℕ → List Placed → State → Run
 read_lines text [] s = finished s
@@ -107,17 +109,25 @@ abbrev pub property_counted : ℕ → Counts → Counts
 property_counted parameters c =
     record { components = c.components; properties = c.properties + 1; parameters = c.parameters + parameters }
 
+-- why a text is refused, and where that was met
+abbrev pub refused_at : Refusal → ℕ → Refused
+refused_at refusal from = record { refusal = refusal; from = from }
+
+abbrev pub met_at : ℕ → Result Unit Refusal → Result Unit Refused
+met_at start (Ok tt) = Ok tt
+met_at start (Err refusal) = Err (refused_at refusal start)
+
 -- at the end of the text nothing is open, and there is a component
-abbrev pub ended_at : ℕ → Counts → ℕ → Outcome
+abbrev pub ended_at : ℕ → Counts → ℕ → Result Counts Refused
 ended_at depth counts size =
     pick (eqb depth 0)
-    (pick (eqb counts.components 0) (Refused Refusal.NoComponent size) (Read counts))
-    (Refused Refusal.Unclosed size)
+    (pick (eqb counts.components 0) (Err (refused_at Refusal.NoComponent size)) (Ok counts))
+    (Err (refused_at Refusal.Unclosed size))
 
-abbrev pub judged : Run → ℕ → Outcome
+abbrev pub judged : Run → ℕ → Result Counts Refused
 judged (finished s) size = ended_at (length s.opens) (counts_of s) size
-judged (stopped r place) size = Refused r place
+judged (stopped r place) size = Err (refused_at r place)
 
 -- what the text alone answers
-unfoldable pub outcome_of : List ℕ → Outcome
+unfoldable pub outcome_of : List ℕ → Result Counts Refused
 outcome_of text = judged (run_of text) (length text)

@@ -1,7 +1,7 @@
 // Nesting: the lines of a text, one after another, with the components that are open, and the rows they add.
 #![tactic(auto)]
 
-ghost use Rattle.std.specs.Prelude.{◌≡◌, List, [], ℕ, ◌+◌, ◌*◌, ◌≤◌, ◌<◌, length, drop};
+ghost use Rattle.std.specs.Prelude.{◌≡◌, [], ◌∷◌, ◌+◌, ◌≤◌, ◌<◌, length};
 ghost use Rattle.octets.specs.Answers.{deepest, longest};
 ghost use Rattle.tables.specs.Rows.{parameter_size, parameter_words};
 ghost use Rattle.octets.specs.Views.{viewed};
@@ -9,15 +9,15 @@ ghost use Rattle.parameters.specs.Parameters.{moved};
 ghost use Rattle.parameters.specs.Values.{ValueWithin};
 ghost use Rattle.lines.specs.Sound.{SoundProperty};
 ghost use Rattle.tables.specs.Rows.{put_row, property_size, property_words};
-ghost use Rattle.nesting.specs.declared.Entry.{Entry};
-ghost use Rattle.nesting.specs.Rows.{entry, component_row, parameter_row, parameter_rows, property_row, rows_from};
-ghost use Rattle.nesting.specs.Steps.{State, nothing, finished, run_of, outcome_of, counts_of, ended_at, names, check_of, property_counted, component_counted};
-ghost use Rattle.nesting.specs.Held.{opened, Innermost, Tabled, put_rows};
+ghost use Rattle.nesting.specs.Rows.{entry, top, component_row, parameter_row, parameter_rows, property_row, rows_from};
+ghost use Rattle.nesting.specs.Steps.{State, nothing, finished, run_of, outcome_of, counts_of, ended_at, refused_at, met_at, names, check_of, closed, property_counted, component_counted};
+ghost use Rattle.nesting.specs.Held.{innermost, Tabled, put_rows};
 
 use lines::{Fault, Line, Property};
 use octets::Span;
-use parameters::{Front, Param, Value};
-use tables::{ComponentRow, ParameterRow, PropertyRow};
+use parameters::{Param, Value};
+use std::marker::Model;
+use tables::{ComponentRow, ParameterRow, PropertyRow, Row};
 
 // An open component: its row, and where its name stands in the text.
 #[derive(Clone, Copy)]
@@ -27,11 +27,25 @@ pub struct Entry {
     pub len: u32,
 }
 
-// The open components, the innermost last.
-#[derive(Clone, Copy)]
+// The open components, the innermost last. Contracts see them as a list, the innermost first.
+#[derive(Drop)]
 pub struct Open {
-    pub entries: [Entry; octets::DEEPEST],
-    pub depth: usize,
+    entries: [Entry; octets::DEEPEST],
+    depth: usize,
+}
+
+impl Model for Open {
+    ghost use Rattle.std.specs.Prelude.{◌≡◌, ◌≤◌, List, length};
+    ghost use Rattle.nesting.specs.declared.Entry.{Entry};
+
+    ghost Value = { List Entry };
+
+    ghost use Rattle.octets.specs.Answers.{deepest};
+    ghost use Rattle.nesting.specs.Held.{stack};
+
+    ghost view = { λ o. stack o.entries o.depth };
+
+    ghost invariant = { λ o. (o.depth ≤ deepest) × (length o.entries ≡ deepest) };
 }
 
 #[derive(Clone, Copy)]
@@ -52,21 +66,22 @@ pub enum Refusal {
     NoComponent,
 }
 
-// A line may stand where it does, or it is refused.
+// Why a text is refused, and where that was met: at the start of a line, or at the end of the text.
 #[derive(Clone, Copy)]
-pub enum Check {
-    Fine,
-    Bad(Refusal),
+pub struct Refused {
+    pub refusal: Refusal,
+    pub from: usize,
 }
 
-// What a text alone answers: the rows it needs, or the refusal and where it was met: at the start of a line, or at the end of the text.
-#[derive(Clone, Copy)]
-pub enum Outcome {
-    Read(Counts),
-    Refused(Refusal, usize),
+impl Refused {
+    pub fn new(refusal: Refusal, from: usize) -> Self
+        ensures { result ≡ refused_at refusal from }
+    {
+        Refused { refusal, from }
+    }
 }
 
-// What stands for the innermost open component where nothing is open.
+// What stands in the array where nothing is open.
 const NO_ENTRY: Entry = Entry {
     row: tables::NO_PARENT,
     start: 0,
@@ -75,12 +90,52 @@ const NO_ENTRY: Entry = Entry {
 
 impl Open {
     pub fn new() -> Self
-        ensures { (opened result ≡ []) × (length result.entries ≡ deepest) }
+        ensures { result ≡ [] }
     {
         Open {
             entries: [NO_ENTRY; octets::DEEPEST],
             depth: 0,
         }
+    }
+
+    // How many are open.
+    pub fn depth(&self) -> usize
+        ensures { result ≡ length self.now }
+    {
+        self.depth
+    }
+
+    pub fn innermost(&self) -> Option<Entry>
+        ensures { result ≡ innermost self.now }
+    {
+        if self.depth == 0 {
+            return None;
+        }
+        Some(self.entries[self.depth - 1])
+    }
+
+    // The row of the innermost, or that there is none.
+    pub fn parent(&self) -> u32
+        ensures { result ≡ top self.now }
+    {
+        match self.innermost() {
+            Some(top) => top.row,
+            None => tables::NO_PARENT,
+        }
+    }
+
+    pub fn push(&mut self, e: Entry)
+        requires { length self.old < deepest }
+        ensures { self.new ≡ e ∷ self.old }
+    {
+        self.entries[self.depth] = e;
+        self.depth += 1;
+    }
+
+    pub fn pop(&mut self)
+        ensures { self.new ≡ closed self.old }
+    {
+        self.depth = self.depth.saturating_sub(1);
     }
 }
 
@@ -164,21 +219,17 @@ fn put_parameters(
     requires { (start + length line.now ≤ longest) × (from ≤ length line.now) × (first ≤ longest) }
     ensures { table.new ≡ put_rows parameter_size parameter_words first (rows_from property start from line.now) table.old }
 {
-    if table.len() == 0 {
+    if table.is_empty() {
         return;
     }
     let mut at = from;
     let mut row = first;
     // A look at the byte spares the call behind the last parameter.
-    while at < line.len() {
-        if line[at] != b';' {
-            return;
-        }
-        let front = parameters::parameter(&line[at..]);
-        let Front::Found(p) = front else {
-            return;
-        };
-        tables::put_parameter(table, row, parameter_row(property, start + at, p));
+    while at < line.len()
+        && line[at] == b';'
+        && let Some(p) = parameters::parameter(&line[at..])
+    {
+        parameter_row(property, start + at, p).put(table, row);
         at += p.used;
         row += 1;
     }
@@ -203,17 +254,14 @@ fn put_property_line(
     let value = p.value;
     let row = counts.properties;
     let first = counts.parameters;
-    tables::put_property(
-        properties,
-        row,
-        PropertyRow {
-            owner,
-            key_start: (start + key.start) as u32,
-            key_len: key.len as u32,
-            value_start: (start + value.start) as u32,
-            value_len: value.len as u32,
-        },
-    );
+    let property = PropertyRow {
+        owner,
+        key_start: (start + key.start) as u32,
+        key_len: key.len as u32,
+        value_start: (start + value.start) as u32,
+        value_len: value.len as u32,
+    };
+    property.put(properties, row);
     let from = key.len;
     put_parameters(line, start, from, row as u32, first, parameters);
 }
@@ -243,54 +291,43 @@ fn entry_of(row: usize, start: usize, name: Span) -> Entry
     }
 }
 
-// Whether a line may stand where `depth` components are open, the innermost being `top`.
-fn check_line(text: &[u8], bytes: &[u8], line: Line, depth: usize, top: Entry) -> Check
-    ensures { (opens : List Entry) → Innermost depth top opens → result ≡ check_of text.now bytes.now line opens }
+// Whether a line may stand where these components are open.
+fn check_line(text: &[u8], bytes: &[u8], line: Line, open: &Open) -> Result<(), Refusal>
+    ensures { result ≡ check_of text.now bytes.now line open.now }
 {
     match line {
-        Line::Empty => Check::Fine,
-        Line::Begin(_) => {
-            if depth < octets::DEEPEST {
-                return Check::Fine;
-            }
-            Check::Bad(Refusal::TooDeep)
-        }
-        Line::BadBegin => Check::Bad(Refusal::BadBegin),
-        Line::End(rest) => {
-            if depth == 0 {
-                return Check::Bad(Refusal::BadEnd);
-            }
-            if closes(text, bytes, rest, top) {
-                return Check::Fine;
-            }
-            Check::Bad(Refusal::BadEnd)
-        }
-        Line::Content(_) => {
-            if depth == 0 {
-                return Check::Bad(Refusal::Outside);
-            }
-            Check::Fine
-        }
-        Line::Bad(fault) => {
-            if depth == 0 {
-                return Check::Bad(Refusal::Outside);
-            }
-            Check::Bad(Refusal::Line(fault))
-        }
+        Line::Empty => Ok(()),
+        Line::Begin(_) if open.depth() < octets::DEEPEST => Ok(()),
+        Line::Begin(_) => Err(Refusal::TooDeep),
+        Line::BadBegin => Err(Refusal::BadBegin),
+        Line::End(rest) => match open.innermost() {
+            Some(top) if closes(text, bytes, rest, top) => Ok(()),
+            _ => Err(Refusal::BadEnd),
+        },
+        Line::Content(_) | Line::Bad(_) if open.depth() == 0 => Err(Refusal::Outside),
+        Line::Content(_) => Ok(()),
+        Line::Bad(fault) => Err(Refusal::Line(fault)),
     }
 }
 
+// What a check says of the line that starts at `start`: its refusal is met there.
+fn met_at(start: usize, check: Result<(), Refusal>) -> Result<(), Refused>
+    ensures { result ≡ met_at start check }
+{
+    check.map_err(|refusal| Refused::new(refusal, start))
+}
+
 // What a text answers at its end.
-fn ended(depth: usize, counts: Counts, size: usize) -> Outcome
+fn ended(depth: usize, counts: Counts, size: usize) -> Result<Counts, Refused>
     ensures { result ≡ ended_at depth counts size }
 {
     if depth != 0 {
-        return Outcome::Refused(Refusal::Unclosed, size);
+        return Err(Refused::new(Refusal::Unclosed, size));
     }
     if counts.components == 0 {
-        return Outcome::Refused(Refusal::NoComponent, size);
+        return Err(Refused::new(Refusal::NoComponent, size));
     }
-    Outcome::Read(counts)
+    Ok(counts)
 }
 
 // Reads the lines of a text, one after another, and puts each row that its table has room for: empty tables only have the rows counted.
@@ -299,7 +336,7 @@ pub fn pass(
     components: &mut [u32],
     properties: &mut [u32],
     parameters: &mut [u32],
-) -> Outcome
+) -> Result<Counts, Refused>
     requires { length text.now ≤ longest }
     ensures value { result ≡ outcome_of text.now }
     ensures tabled { (s : State) → run_of text.now ≡ finished s →
@@ -308,6 +345,7 @@ pub fn pass(
     let mut open = Open::new();
     let mut counts = Counts::new();
     let mut at: usize = 0;
+    // An index, as each step takes a line.
     while at < text.len() {
         let start = at;
         let extent = lines::line_at(text, start);
@@ -315,39 +353,29 @@ pub fn pass(
         let end = start + extent.len;
         let bytes = &text[start..end];
         let line = lines::read_line(bytes);
-        let depth = open.depth;
-        let mut top = NO_ENTRY;
-        if depth != 0 {
-            let i = depth - 1;
-            top = open.entries[i];
-        }
-        if let Check::Bad(refusal) = check_line(text, bytes, line, depth, top) {
-            return Outcome::Refused(refusal, start);
-        }
+        met_at(start, check_line(text, bytes, line, &open))?;
         match line {
             Line::Content(p) => {
-                put_property_line(bytes, start, p, top.row, counts, properties, parameters);
+                let owner = open.parent();
+                put_property_line(bytes, start, p, owner, counts, properties, parameters);
                 counts = counts.with_property(p.parameters);
             }
             Line::Begin(name) => {
                 let entry = entry_of(counts.components, start, name);
-                let row = component_row(top.row, depth, entry);
-                tables::put_component(components, counts.components, row);
-                open.entries[depth] = entry;
-                open.depth = depth + 1;
+                let row = component_row(open.parent(), open.depth(), entry);
+                row.put(components, counts.components);
+                open.push(entry);
                 counts = counts.with_component();
             }
-            Line::End(_) => open.depth = depth - 1,
-            Line::Empty => {}
-            Line::BadBegin => {}
-            Line::Bad(_) => {}
+            Line::End(_) => open.pop(),
+            Line::Empty | Line::BadBegin | Line::Bad(_) => {}
         }
     }
-    ended(open.depth, counts, text.len())
+    ended(open.depth(), counts, text.len())
 }
 
 // What a text alone answers: a pass over tables without room.
-pub fn count(text: &[u8]) -> Outcome
+pub fn count(text: &[u8]) -> Result<Counts, Refused>
     requires { length text.now ≤ longest }
     ensures { result ≡ outcome_of text.now }
 {

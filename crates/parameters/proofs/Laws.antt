@@ -20,7 +20,7 @@ use Rattle.parameters.specs.declared.Form.TheVariants.{Nothing, Bare, Quoted, Li
 use Rattle.parameters.specs.declared.Value.{Value}
 use Rattle.parameters.specs.declared.Value.TheVariants.{Absent, Present}
 use Rattle.parameters.specs.declared.Param.{Param}
-use Rattle.parameters.specs.declared.Front.TheVariants.{NoParameter, Found}
+use Rattle.std.specs.Prelude.{Some, None}
 use Rattle.parameters.specs.Values.{span, form_of, form_used, value_at}
 use Rattle.parameters.specs.Values.{ValueWithin}
 use Rattle.parameters.specs.Parameter.{key_offset, key_end, param, without_value, with_form, param_of, front_of}
@@ -28,12 +28,12 @@ use Rattle.parameters.proofs.Values.{inside_of, form_le}
 
 -- ---- what stands at the front
 
-pub front_none : (rest : List ℕ) → (get_or rest 0 0 ≡ semicolon → ⊥) → NoParameter ≡ front_of rest
+pub front_none : (rest : List ℕ) → (get_or rest 0 0 ≡ semicolon → ⊥) → None ≡ front_of rest
 unfolding front_of
 front_none rest h = rw (ne_eqb _ _ h)
 
 -- where another byte stands than `;`
-pub front_other : (line : List ℕ) (at : ℕ) → (get_or line at 0 ≡ semicolon → ⊥) → front_of (drop at line) ≡ NoParameter
+pub front_other : (line : List ℕ) (at : ℕ) → (get_or line at 0 ≡ semicolon → ⊥) → front_of (drop at line) ≡ None
 front_other line at h = sym (front_none (drop at line) (λ e. h (rw (get_or-drop, add-zero) at e)))
 
 module _ (rest : List ℕ) (opens : get_or rest 0 0 ≡ semicolon) (start : ℕ) (starts : start ≡ key_offset rest) where
@@ -44,12 +44,12 @@ module _ (rest : List ℕ) (opens : get_or rest 0 0 ≡ semicolon) (start : ℕ)
     pub key_ends : start + len ≤ length rest
     key_ends = omega (arith, key_starts, within key_byte (drop start rest), length-drop start rest)
 
-    pub front_bare : (get_or rest (start + len) 0 ≡ equals → ⊥) → Found (param (span start len) Absent (start + len)) ≡ front_of rest
+    pub front_bare : (get_or rest (start + len) 0 ≡ equals → ⊥) → Some (param (span start len) Absent (start + len)) ≡ front_of rest
     unfolding param_of front_of
     front_bare h = rw (eq-eqb _ _ opens, ← starts, ← runs, ne_eqb _ _ h)
 
     pub front_form : get_or rest (start + len) 0 ≡ equals → (form : Form) → form ≡ form_of (drop (start + len + 1) rest)
-        → Found (param (span start len) (value_at (start + len + 1) form) (start + len + 1 + form_used form)) ≡ front_of rest
+        → Some (param (span start len) (value_at (start + len + 1) form) (start + len + 1 + form_used form)) ≡ front_of rest
     unfolding param_of front_of
     front_form h form is = rw (eq-eqb _ _ opens, ← starts, ← runs, eq-eqb _ _ h, ← is)
 
@@ -111,13 +111,13 @@ module _ (rest : List ℕ) (opens : get_or rest 0 0 ≡ semicolon) where
       go false e = inside_bare
 
 -- a parameter that was found begins with `;`
-pub found_is : (rest : List ℕ) {p : Param} → front_of rest ≡ Found p → (get_or rest 0 0 ≡ semicolon) × (param_of rest ≡ p)
+pub found_is : (rest : List ℕ) {p : Param} → front_of rest ≡ Some p → (get_or rest 0 0 ≡ semicolon) × (param_of rest ≡ p)
 unfolding front_of
 found_is rest {p} h = go (eqb (get_or rest 0 0) semicolon) refl h
   where
-    go : (t : Bool) → eqb (get_or rest 0 0) semicolon ≡ t → pick t (Found (param_of rest)) NoParameter ≡ Found p → (get_or rest 0 0 ≡ semicolon) × (param_of rest ≡ p)
+    go : (t : Bool) → eqb (get_or rest 0 0) semicolon ≡ t → pick t (Some (param_of rest)) None ≡ Some p → (get_or rest 0 0 ≡ semicolon) × (param_of rest ≡ p)
     go true e q = (eqb-true _ _ e, cc)
     go false e q = let z : ◌≡◌ {A = ℕ} 0 1 = cc in absurd (omega arith)
 
-pub found_inside : (rest : List ℕ) {p : Param} → front_of rest ≡ Found p → Inside rest p
+pub found_inside : (rest : List ℕ) {p : Param} → front_of rest ≡ Some p → Inside rest p
 found_inside rest {p} h = let f = found_is rest h in rw f.1 at (param_inside rest f.0)

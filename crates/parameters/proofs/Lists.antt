@@ -11,8 +11,7 @@ use Rattle.octets.specs.Bytes.{semicolon}
 use Rattle.parameters.specs.declared.Value.{Value}
 use Rattle.parameters.specs.declared.Value.TheVariants.{Absent, Present}
 use Rattle.parameters.specs.declared.Param.{Param}
-use Rattle.parameters.specs.declared.Front.{Front}
-use Rattle.parameters.specs.declared.Front.TheVariants.{NoParameter, Found}
+use Rattle.std.specs.Prelude.{Option, Some, None}
 use Rattle.parameters.specs.Parameter.{front_of}
 use Rattle.parameters.specs.Parameters.{value_moved, moved, front_used, and_later, params_after, params_of, params_used, passed, passed_of}
 use Rattle.parameters.proofs.Laws.{value_len, found_is, found_inside}
@@ -26,10 +25,10 @@ params_skip at (suc k) (x ∷ xs) =
     let e : at + 1 + k ≡ at + suc k = omega arith in
     params_skip (at + 1) k xs ∙ rw e
 
-front_empty : (p : Param) → front_of [] ≡ Found p → ⊥
+front_empty : (p : Param) → front_of [] ≡ Some p → ⊥
 front_empty p h = let z : ◌≡◌ {A = ℕ} 0 semicolon = (found_is [] h).0 in omega arith
 
-pub turn : (at : ℕ) (xs : List ℕ) (p : Param) → front_of xs ≡ Found p → params_after at 0 xs ≡ moved at p ∷ params_after (at + p.used) 0 (drop p.used xs)
+pub turn : (at : ℕ) (xs : List ℕ) (p : Param) → front_of xs ≡ Some p → params_after at 0 xs ≡ moved at p ∷ params_after (at + p.used) 0 (drop p.used xs)
 unfolding params_after
 turn at [] p h = absurd (front_empty p h)
 turn at (x ∷ xs) p h =
@@ -38,17 +37,17 @@ turn at (x ∷ xs) p h =
     let e : at + 1 + (p.used - 1) ≡ at + p.used = omega (arith, i.some) in
     rw h (ap (◌∷◌ (moved at p)) (params_skip (at + 1) (p.used - 1) xs ∙ rw e (ap (λ (n : ℕ). params_after (at + p.used) 0 (drop n (x ∷ xs))) (sym u))))
 
-pub stop : (at : ℕ) (xs : List ℕ) → front_of xs ≡ NoParameter → params_after at 0 xs ≡ []
+pub stop : (at : ℕ) (xs : List ℕ) → front_of xs ≡ None → params_after at 0 xs ≡ []
 unfolding params_after
 stop at [] h = refl
 stop at (x ∷ xs) h = rw h
 
 -- ---- one turn, at the offset `at` of a line
 
-pub params_found : (line : List ℕ) (at : ℕ) (p : Param) → front_of (drop at line) ≡ Found p → params_of line at ≡ moved at p ∷ params_of line (at + p.used)
+pub params_found : (line : List ℕ) (at : ℕ) (p : Param) → front_of (drop at line) ≡ Some p → params_of line at ≡ moved at p ∷ params_of line (at + p.used)
 params_found line at p h = turn at (drop at line) p h ∙ rw drop-drop
 
-pub params_none : (line : List ℕ) (at : ℕ) → front_of (drop at line) ≡ NoParameter → params_of line at ≡ []
+pub params_none : (line : List ℕ) (at : ℕ) → front_of (drop at line) ≡ None → params_of line at ≡ []
 params_none line at h = stop at (drop at line) h
 
 pub params_end : (line : List ℕ) (at : ℕ) → length line ≤ at → params_of line at ≡ []
@@ -69,10 +68,10 @@ unfolding params_after
 params_moved by at k [] = refl
 params_moved by at zero (x ∷ xs) = go (front_of (x ∷ xs)) (λ k. rw add_assoc (params_moved by (at + 1) k xs))
   where
-    go : (f : Front) → ((k : ℕ) → params_after (by + at + 1) k xs ≡ map (moved by) (params_after (at + 1) k xs))
+    go : (f : Option Param) → ((k : ℕ) → params_after (by + at + 1) k xs ≡ map (moved by) (params_after (at + 1) k xs))
         → and_later f (by + at) (params_after (by + at + 1) (front_used f - 1) xs) ≡ map (moved by) (and_later f at (params_after (at + 1) (front_used f - 1) xs))
-    go NoParameter ih = refl
-    go (Found p) ih = rw (moved_twice by at p, ih (p.used - 1))
+    go None ih = refl
+    go (Some p) ih = rw (moved_twice by at p, ih (p.used - 1))
 params_moved by at (suc k) (x ∷ xs) = rw add_assoc (params_moved by (at + 1) k xs)
 
 pub params_rest : (line : List ℕ) (at : ℕ) → params_of line at ≡ map (moved at) (params_of (drop at line) 0)
@@ -101,10 +100,10 @@ unfolding params_after params_used
 used_within at k [] h = omega arith
 used_within at zero (x ∷ xs) h = go (front_of (x ∷ xs)) refl (λ k. used_within (at + 1) k xs)
   where
-    go : (f : Front) → front_of (x ∷ xs) ≡ f → ((k : ℕ) → k ≤ length xs → k + params_used (params_after (at + 1) k xs) ≤ length xs)
+    go : (f : Option Param) → front_of (x ∷ xs) ≡ f → ((k : ℕ) → k ≤ length xs → k + params_used (params_after (at + 1) k xs) ≤ length xs)
         → 0 + params_used (and_later f at (params_after (at + 1) (front_used f - 1) xs)) ≤ suc (length xs)
-    go NoParameter e ih = omega arith
-    go (Found p) e ih =
+    go None e ih = omega arith
+    go (Some p) e ih =
         let i = found_inside (x ∷ xs) e in
         let u : p.used - 1 ≤ length xs = omega (arith, i.all) in
         omega (arith, i.some, ih (p.used - 1) u)
@@ -115,10 +114,10 @@ unfolding params_after params_used
 used_few at k [] = omega arith
 used_few at zero (x ∷ xs) = go (front_of (x ∷ xs)) refl (λ k. used_few (at + 1) k xs)
   where
-    go : (f : Front) → front_of (x ∷ xs) ≡ f → ((k : ℕ) → length (params_after (at + 1) k xs) ≤ params_used (params_after (at + 1) k xs))
+    go : (f : Option Param) → front_of (x ∷ xs) ≡ f → ((k : ℕ) → length (params_after (at + 1) k xs) ≤ params_used (params_after (at + 1) k xs))
         → length (and_later f at (params_after (at + 1) (front_used f - 1) xs)) ≤ params_used (and_later f at (params_after (at + 1) (front_used f - 1) xs))
-    go NoParameter e ih = omega arith
-    go (Found p) e ih = omega (arith, (found_inside (x ∷ xs) e).some, ih (p.used - 1))
+    go None e ih = omega arith
+    go (Some p) e ih = omega (arith, (found_inside (x ∷ xs) e).some, ih (p.used - 1))
 used_few at (suc k) (x ∷ xs) = used_few (at + 1) k xs
 
 -- the bytes of their keys and values, of which none is counted twice
@@ -135,10 +134,10 @@ params_apart at zero (x ∷ xs) = go (front_of (x ∷ xs)) refl (λ k. params_ap
     same Absent = refl
     same (Present s) = refl
 
-    go : (f : Front) → front_of (x ∷ xs) ≡ f → ((k : ℕ) → params_len (params_after (at + 1) k xs) ≤ params_used (params_after (at + 1) k xs))
+    go : (f : Option Param) → front_of (x ∷ xs) ≡ f → ((k : ℕ) → params_len (params_after (at + 1) k xs) ≤ params_used (params_after (at + 1) k xs))
         → params_len (and_later f at (params_after (at + 1) (front_used f - 1) xs)) ≤ params_used (and_later f at (params_after (at + 1) (front_used f - 1) xs))
-    go NoParameter e ih = omega arith
-    go (Found p) e ih = omega (arith, (found_inside (x ∷ xs) e).apart, same p.value, ih (p.used - 1))
+    go None e ih = omega arith
+    go (Some p) e ih = omega (arith, (found_inside (x ∷ xs) e).apart, same p.value, ih (p.used - 1))
 params_apart at (suc k) (x ∷ xs) = params_apart (at + 1) k xs
 
 pub params_within : (line : List ℕ) (at : ℕ) → at ≤ length line → at + params_used (params_of line at) ≤ length line
@@ -160,7 +159,7 @@ pub passing_start : (rest : List ℕ) → Passing rest 0 0
 passing_start rest = record { inside = omega arith; few = omega arith; counts = omega arith; bytes = omega arith }
 
 module _ {rest : List ℕ} {count at : ℕ} (g : Passing rest count at) where
-  pub passing_more : (p : Param) → front_of (drop at rest) ≡ Found p → Passing rest (count + 1) (at + p.used)
+  pub passing_more : (p : Param) → front_of (drop at rest) ≡ Some p → Passing rest (count + 1) (at + p.used)
   unfolding params_used
   passing_more p h =
       let i = found_inside (drop at rest) h in
@@ -179,7 +178,7 @@ module _ {rest : List ℕ} {count at : ℕ} (g : Passing rest count at) where
       let u : at ≡ params_used (params_of rest 0) = omega (arith, g.bytes, ap params_used e) in
       rw (c, u)
 
-  pub passing_none : front_of (drop at rest) ≡ NoParameter → passed count at ≡ passed_of rest
+  pub passing_none : front_of (drop at rest) ≡ None → passed count at ≡ passed_of rest
   passing_none h = last (params_none rest at h)
 
   pub passing_end : length rest ≤ at → passed count at ≡ passed_of rest

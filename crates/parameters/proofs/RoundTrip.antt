@@ -17,7 +17,7 @@ use Rattle.octets.proofs.Runs.{no_run, ends_inside, through, whole_head, whole_w
 use Rattle.parameters.specs.declared.Form.{Form}
 use Rattle.parameters.specs.declared.Form.TheVariants.{Nothing, Bare, Quoted, Listed}
 use Rattle.parameters.specs.declared.Value.TheVariants.{Absent, Present}
-use Rattle.parameters.specs.declared.Front.TheVariants.{Found}
+use Rattle.std.specs.Prelude.{Some}
 use Rattle.parameters.specs.Values.{inside_len, quoted_len, further_after, further_len, form_of, form_used, span, value_at, listed_all, is_list}
 use Rattle.parameters.specs.Parameter.{key_offset, param, front_of}
 use Rattle.parameters.proofs.Values.{QuotedAt, quoted_is, quoted_has, quoted_none, quoted_room, quoted_le, further_bare, form_bare, form_quoted, form_listed}
@@ -82,14 +82,14 @@ module _ (k : List ℕ) (keyed : run key_byte k ≡ length k) where
     runs = omega (arith, through key_byte k ys keyed, no_run key_byte ys colon off)
 
   -- an absent value: the key alone is written
-  pub reads_absent : (tail : List ℕ) → Ends tail → Found (param (span 1 (length k)) Absent (1 + length k)) ≡ front_of (59 ∷ k ++ tail)
+  pub reads_absent : (tail : List ℕ) → Ends tail → Some (param (span 1 (length k)) Absent (1 + length k)) ≡ front_of (59 ∷ k ++ tail)
   reads_absent tail e =
       let n = ends_key (get_or tail 0 colon) e in
       front_bare (59 ∷ k ++ tail) refl 1 (starts tail n.0 n.1) (length k) (runs tail n.0 n.1)
       (λ q. ends_no tail e 60 refl (sym (key_next k tail 0) ∙ q))
 
   reads_form : (xs : List ℕ) (form : Form) → form ≡ form_of xs
-      → Found (param (span 1 (length k)) (value_at (1 + length k + 1) form) (1 + length k + 1 + form_used form)) ≡ front_of (59 ∷ k ++ (61 ∷ xs))
+      → Some (param (span 1 (length k)) (value_at (1 + length k + 1) form) (1 + length k + 1 + form_used form)) ≡ front_of (59 ∷ k ++ (61 ∷ xs))
   reads_form xs form is =
       let z : 1 + length k + 1 + 0 ≡ 1 + length k + 1 = omega arith in
       front_form (59 ∷ k ++ (61 ∷ xs)) refl 1 (starts (61 ∷ xs) refl refl) (length k) (runs (61 ∷ xs) refl refl) (key_next k (61 ∷ xs) 0) form
@@ -183,7 +183,7 @@ form_list v tail h e =
 
 -- the parameter at the front of the rest has the key k and a present value with the bytes v, and what it leaves is the tail
 pub record ReadsAs (rest k v tail : List ℕ) (start used : ℕ) : Type 0 where
-  pub found : front_of rest ≡ Found (param (span 1 (length k)) (Present (span start (length v))) used)
+  pub found : front_of rest ≡ Some (param (span 1 (length k)) (Present (span start (length v))) used)
   pub key : part rest 1 (length k) ≡ k
   pub value : part rest start (length v) ≡ v
   pub left : drop used rest ≡ tail

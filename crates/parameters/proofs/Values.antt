@@ -123,11 +123,11 @@ pub joined_start : (xs : List ℕ) → Joined xs 0
 joined_start xs = record { inside = omega arith; left = omega arith }
 
 module _ {xs : List ℕ} {i : ℕ} (j : Joined xs i) where
-  pub joined_all : length xs ≤ i → i ≡ further_len xs
+  joined_all : length xs ≤ i → i ≡ further_len xs
   joined_all h = omega (arith, j.inside, j.left, length-drop i xs, further_le 0 (drop i xs))
 
   module _ (h : i < length xs) where
-    pub joined_bare : (get_or xs i 0 ≡ comma → ⊥) → i ≡ further_len xs
+    joined_bare : (get_or xs i 0 ≡ comma → ⊥) → i ≡ further_len xs
     joined_bare n = omega (arith, j.left, ap further_len (drop-cons xs i 0 h), further_bare _ (drop (suc i) xs) n)
 
     pub joined_unfit : quoted_len (drop (i + 1) xs) ≡ 0 → i ≡ further_len xs
@@ -138,6 +138,14 @@ module _ {xs : List ℕ} {i : ℕ} (j : Joined xs i) where
         let one : further_len (drop i xs) ≡ suc (n + further_len (drop (i + 1 + n) xs)) =
         rw (drop-cons xs i 0 h, e, q, add-one) (further_one (drop (suc i) xs) (λ z. some (q ∙ rw add-one z)) ∙ rw drop-drop) in
         record { inside = omega (arith, quoted_le (drop (i + 1) xs), length-drop (i + 1) xs); left = omega (arith, j.left) }
+
+  -- where another byte stands than a comma, or none
+  pub joined_end : (get_or xs i 0 ≡ comma → ⊥) → i ≡ further_len xs
+  joined_end n = go (dec_lt i (length xs))
+    where
+      go : Dec (i < length xs) → i ≡ further_len xs
+      go (yes l) = joined_bare l n
+      go (no l) = joined_all (omega arith)
 
 -- ---- forms, by what stands at the front
 

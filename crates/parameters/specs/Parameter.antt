@@ -2,7 +2,7 @@
 -- All offsets are relative to the rest, which begins with the `;`.
 -- Here document 01 departs from the RFC: docs/DIFFERENCES.md, R-6 to R-9.
 -- Assumes nothing.
-use Rattle.std.specs.Prelude.{ℕ, ◌+◌, List, get_or, drop, eqb}
+use Rattle.std.specs.Prelude.{ℕ, ◌+◌, List, get_or, drop, eqb, Option, Some, None}
 use Rattle.octets.specs.Choice.{pick}
 use Rattle.octets.specs.Bytes.{semicolon, equals, blank, key_byte}
 use Rattle.octets.specs.Runs.{run}
@@ -11,8 +11,6 @@ use Rattle.parameters.specs.declared.Form.{Form}
 use Rattle.parameters.specs.declared.Value.{Value}
 use Rattle.parameters.specs.declared.Value.TheVariants.{Absent}
 use Rattle.parameters.specs.declared.Param.{Param}
-use Rattle.parameters.specs.declared.Front.{Front}
-use Rattle.parameters.specs.declared.Front.TheVariants.{NoParameter, Found}
 use Rattle.parameters.specs.Values.{span, form_of, form_used, value_at}
 
 -- the key begins behind the `;` and any spaces and tabs
@@ -46,5 +44,5 @@ param_of rest =
     (without_value rest)
 
 -- a parameter begins with `;`
-unfoldable pub front_of : List ℕ → Front
-front_of rest = pick (eqb (get_or rest 0 0) semicolon) (Found (param_of rest)) NoParameter
+unfoldable pub front_of : List ℕ → Option Param
+front_of rest = pick (eqb (get_or rest 0 0) semicolon) (Some (param_of rest)) None

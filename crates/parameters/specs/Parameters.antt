@@ -1,13 +1,11 @@
 -- The parameters of a line, one behind the other (document 01, "One parameter"): reading stops, without refusal, at a byte that is
 -- not `;` and at the end. Spans are relative to the line.
 -- Assumes nothing.
-use Rattle.std.specs.Prelude.{ℕ, zero, suc, ◌+◌, ◌-◌, List, [], ◌∷◌, length, drop}
+use Rattle.std.specs.Prelude.{ℕ, zero, suc, ◌+◌, ◌-◌, List, [], ◌∷◌, length, drop, Option, Some, None}
 use Rattle.octets.specs.declared.Span.{Span}
 use Rattle.parameters.specs.declared.Value.{Value}
 use Rattle.parameters.specs.declared.Value.TheVariants.{Absent, Present}
 use Rattle.parameters.specs.declared.Param.{Param}
-use Rattle.parameters.specs.declared.Front.{Front}
-use Rattle.parameters.specs.declared.Front.TheVariants.{NoParameter, Found}
 use Rattle.parameters.specs.declared.Passed.{Passed}
 use Rattle.parameters.specs.Values.{span}
 use Rattle.parameters.specs.Parameter.{param, front_of}
@@ -24,14 +22,14 @@ abbrev pub moved : ℕ → Param → Param
 moved by p = param (span_moved by p.key) (value_moved by p.value) p.used
 
 -- what a parameter at the front takes
-abbrev pub front_used : Front → ℕ
-front_used NoParameter = 0
-front_used (Found p) = p.used
+abbrev pub front_used : Option Param → ℕ
+front_used None = 0
+front_used (Some p) = p.used
 
 -- the parameter at the front before the later ones: none without it
-abbrev pub and_later : Front → ℕ → List Param → List Param
-and_later NoParameter at later = []
-and_later (Found p) at later = moved at p ∷ later
+abbrev pub and_later : Option Param → ℕ → List Param → List Param
+and_later None at later = []
+and_later (Some p) at later = moved at p ∷ later
 
 -- the parameters in the bytes of a line from `at` on, of which the first k belong to a parameter that has begun
 unfoldable pub params_after : ℕ → ℕ → List ℕ → List Param

@@ -37,13 +37,6 @@ pub struct Param {
     pub used: usize,
 }
 
-// What stands at the front of the rest of a line.
-#[derive(Clone, Copy)]
-pub enum Front {
-    NoParameter,
-    Found(Param),
-}
-
 // How many parameters stand at the front of the rest of a line, and how many bytes they take.
 #[derive(Clone, Copy)]
 pub struct Passed {
@@ -51,56 +44,28 @@ pub struct Passed {
     pub used: usize,
 }
 
-// Whether the byte is a space or a tab.
-fn is_blank(x: u8) -> bool
-    ensures { result ≡ blank x }
-{
-    (x == b' ') | (x == b'\t')
-}
-
-// Whether a value without quotes may hold the byte.
-fn is_bare(x: u8) -> bool
-    ensures { result ≡ bare x }
-{
-    !((x == b';') | (x == b':'))
-}
-
 // How many spaces and tabs stand at the front.
 fn blank_run(a: &[u8]) -> usize
     ensures { result ≡ run blank a.now }
 {
-    let mut i: usize = 0;
-    while i < a.len() {
-        if !is_blank(a[i]) {
-            return i;
-        }
-        i += 1;
-    }
-    i
+    octets::run_while(a, |x| (x == b' ') | (x == b'\t'))
 }
 
 // How many bytes stand before the first `;` or `:`, or in all.
 fn bare_run(a: &[u8]) -> usize
     ensures { result ≡ run bare a.now }
 {
-    let mut i: usize = 0;
-    while i < a.len() {
-        if !is_bare(a[i]) {
-            return i;
-        }
-        i += 1;
-    }
-    i
+    octets::run_while(a, |x| !((x == b';') | (x == b':')))
 }
 
 // The byte at i, or 0 past the end.
 fn byte_at(a: &[u8], i: usize) -> u8
     ensures { result ≡ get_or a.now i 0 }
 {
-    if i < a.len() { a[i] } else { 0 }
+    a.get(i).copied().unwrap_or(0)
 }
 
-// The bytes of the quoted part at the front, with both quotes: 0 where there is none.
+// The bytes of the quoted part at the front, with both quotes. No part has 0 bytes, as in the definition, which counts them.
 fn quoted_len(a: &[u8]) -> usize
     ensures { result ≡ quoted_len a.now }
 {
@@ -122,10 +87,8 @@ fn further_len(a: &[u8]) -> usize
     ensures { result ≡ further_len a.now }
 {
     let mut at: usize = 0;
-    while at < a.len() {
-        if a[at] != b',' {
-            return at;
-        }
+    // An index, as each step takes a comma and a whole part.
+    while byte_at(a, at) == b',' {
         let next = at + 1;
         let n = quoted_len(&a[next..]);
         if n == 0 {
@@ -142,29 +105,22 @@ pub fn form_of(a: &[u8]) -> Form
 {
     let first = quoted_len(a);
     if first == 0 {
-        let n = bare_run(a);
-        if n == 0 {
-            return Form::Nothing;
-        }
-        return Form::Bare(n);
+        return match bare_run(a) {
+            0 => Form::Nothing,
+            n => Form::Bare(n),
+        };
     }
-    let more = further_len(&a[first..]);
-    if more == 0 {
-        return Form::Quoted(first - 2);
+    match further_len(&a[first..]) {
+        0 => Form::Quoted(first - 2),
+        more => Form::Listed(first + more),
     }
-    Form::Listed(first + more)
 }
 
 // Whether the form is a list of two or more quoted parts that takes all of `len` bytes.
 fn listed_all(form: Form, len: usize) -> bool
     ensures { result ≡ listed_all form len }
 {
-    match form {
-        Form::Nothing => false,
-        Form::Bare(_) => false,
-        Form::Quoted(_) => false,
-        Form::Listed(n) => n == len,
-    }
+    matches!(form, Form::Listed(n) if n == len)
 }
 
 // Whether a value is exactly a list of two or more quoted parts.
@@ -181,9 +137,8 @@ fn form_used(form: Form) -> usize
 {
     match form {
         Form::Nothing => 0,
-        Form::Bare(n) => n,
+        Form::Bare(n) | Form::Listed(n) => n,
         Form::Quoted(n) => n + 2,
-        Form::Listed(n) => n,
     }
 }
 
@@ -194,40 +149,33 @@ fn value_at(at: usize, form: Form) -> Value
 {
     match form {
         Form::Nothing => Value::Absent,
-        Form::Bare(n) => Value::Present(Span { start: at, len: n }),
-        Form::Quoted(n) => Value::Present(Span {
-            start: at + 1,
-            len: n,
-        }),
-        Form::Listed(n) => Value::Present(Span { start: at, len: n }),
+        Form::Bare(len) | Form::Listed(len) => Value::Present(Span { start: at, len }),
+        Form::Quoted(len) => Value::Present(Span { start: at + 1, len }),
     }
 }
 
-// The parameter at the front of the rest of a line.
-pub fn parameter(rest: &[u8]) -> Front
+// The parameter at the front of the rest of a line, if one begins there.
+pub fn parameter(rest: &[u8]) -> Option<Param>
     ensures { result ≡ front_of rest.now }
 {
     if byte_at(rest, 0) != b';' {
-        return Front::NoParameter;
+        return None;
     }
     let start = 1 + blank_run(&rest[1..]);
     let len = octets::key_run(&rest[start..]);
-    let key = Span {
-        start: start,
-        len: len,
-    };
+    let key = Span { start, len };
     let end = start + len;
     if byte_at(rest, end) != b'=' {
-        return Front::Found(Param {
-            key: key,
+        return Some(Param {
+            key,
             value: Value::Absent,
             used: end,
         });
     }
     let from = end + 1;
     let form = form_of(&rest[from..]);
-    Front::Found(Param {
-        key: key,
+    Some(Param {
+        key,
         value: value_at(from, form),
         used: from + form_used(form),
     })
@@ -238,30 +186,13 @@ pub fn parameters(rest: &[u8]) -> Passed
     ensures { result ≡ passed_of rest.now }
 {
     let mut count: usize = 0;
-    let mut at: usize = 0;
+    let mut used: usize = 0;
     // Most lines have none: a look at the byte spares the call.
-    while at < rest.len() {
-        if rest[at] != b';' {
-            return Passed {
-                count: count,
-                used: at,
-            };
-        }
-        match parameter(&rest[at..]) {
-            Front::NoParameter => {
-                return Passed {
-                    count: count,
-                    used: at,
-                };
-            }
-            Front::Found(p) => {
-                at += p.used;
-                count += 1;
-            }
-        }
+    while byte_at(rest, used) == b';'
+        && let Some(p) = parameter(&rest[used..])
+    {
+        used += p.used;
+        count += 1;
     }
-    Passed {
-        count: count,
-        used: at,
-    }
+    Passed { count, used }
 }

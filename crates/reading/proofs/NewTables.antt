@@ -1,14 +1,16 @@
 -- Tables that are all zero: what was there is known, and can be put back. Assumes nothing.
 use mathlib.Core.Path.{◌≡◌, refl, sym, ap, ap₂, ◌∙◌}
-use mathlib.Core.Bool.{Bool, true, false}
+use mathlib.Core.Bool.{Bool, true, false, not, not-not}
 use mathlib.Core.List.{List, [], ◌∷◌}
-use Prim.Native.Nat.{ℕ, ◌≤◌}
+use Prim.Native.Nat.{ℕ, ◌+◌, ◌≤◌, ◌<◌}
 use native.Mathlib.Omega.{arith}
 use mir.Val.{bool_byte}
-use lib.ListN.{length, drop, replicate}
+use lib.ListN.{length, get_or, replicate}
 use lib.Dec.{eqb, ltb}
 use borrow.Author.Tests.{le-leb, lt-leb, leb-true, eqb-true, ltb-true, ltb-false}
+use lib.Bits.{bit_or}
 use Rattle.octets.specs.Runs.{run, only}
+use Rattle.octets.proofs.Hits.{onward, ends}
 use Rattle.tables.specs.Lent.{Lent, lent}
 use Rattle.reading.specs.NewTables.{is_zero}
 
@@ -31,8 +33,17 @@ back old put e n f = f ∙ ap (λ (k : ℕ). replicate k 0) n ∙ sym (all_zeros
 pub put_back : (b : Lent) {c p q : List ℕ} → c ≡ b.components → p ≡ b.properties → q ≡ b.parameters → lent b.text c p q ≡ b
 put_back b e f g = rw (e, f, g)
 
+-- the word at j is asked for, too
+pub zero_more : (table : List ℕ) (j : ℕ) → j < length table → {hit : ℕ} → hit ≡ bool_byte (ltb (run is_zero table) j)
+    → bit_or hit (bool_byte (not (eqb (get_or table j 0) 0))) ≡ bool_byte (ltb (run is_zero table) (j + 1))
+zero_more table j h e =
+    let t = not (eqb (get_or table j 0) 0) in
+    let at : 0 + j ≡ j = omega arith in
+    let same : is_zero (get_or table (0 + j) 0) ≡ not t = rw at (sym (not-not (is_zero (get_or table j 0)))) in
+    rw e (onward (run is_zero table) j t (ends is_zero table 0 j t same (omega arith)))
+
 -- no word that is not zero was hit
-pub none_hit : (table : List ℕ) → eqb (bool_byte (ltb (run is_zero (drop 0 table)) (length table))) 0 ≡ only is_zero table
+pub none_hit : (table : List ℕ) → eqb (bool_byte (ltb (run is_zero table) (length table))) 0 ≡ only is_zero table
 none_hit table = go (ltb (run is_zero table) (length table)) refl
   where
     go : (t : Bool) → ltb (run is_zero table) (length table) ≡ t → eqb (bool_byte t) 0 ≡ only is_zero table

@@ -17,13 +17,15 @@ use Rattle.unfolding.specs.Unfold.{unfolded}
 use Rattle.unfolding.proofs.Laws.{length_unfolded}
 use Rattle.tables.specs.Rows.{flat}
 use Rattle.tables.proofs.Laws.{Shape, component_shape, property_shape, parameter_shape}
-use Rattle.nesting.specs.Steps.{State, finished, run_of}
+use Rattle.nesting.specs.Steps.{State, finished, run_of, outcome_of}
+use Rattle.nesting.specs.declared.Refused.{Refused}
+use Rattle.std.specs.Prelude.{Result}
 use Rattle.nesting.specs.Held.{put_rows, Tabled}
 use Rattle.nesting.specs.declared.Counts.{Counts}
 use Rattle.nesting.proofs.Tables.{all_put}
 use Rattle.tables.specs.Lent.{Lent, lent}
 use Rattle.reading.specs.declared.Reading.{Reading}
-use Rattle.reading.specs.Answers.{refusal, measure_text, read_text, unfold_answer, reading_of, measuring_of, filling_of, text_after, rows_in}
+use Rattle.reading.specs.Answers.{answered, room_for as rows_for, refusal, measure_text, read_text, unfold_answer, reading_of, measuring_of, filling_of, text_after, rows_in}
 use Rattle.reading.specs.Lent.{room_in, with_rows, read_into, left, fill_from, left_filled}
 use Rattle.reading.specs.InTurn.{measure_into, left_measured, lent_on, read_in_turn, left_in_turn}
 use Rattle.reading.proofs.Laws.{read_to_end, measured_length, refused_with, was_done}
@@ -55,6 +57,12 @@ module _ (b : Lent) where
     pub fill_reads : read_text b.text (room_in b) ≡ fill_from b
     unfolding filling_of
     fill_reads = rw (le-leb (length b.text) longest short)
+
+    -- what is told of a pass, and of the room in tables that kept their lengths
+    pub told_with : {o : Result Counts Refused} {m told : Reading} (c p q : List ℕ) → o ≡ outcome_of b.text → m ≡ answered o (length b.text) (λ counts. done)
+        → length c ≡ length b.components → length p ≡ length b.properties → length q ≡ length b.parameters
+        → ((text : List ℕ) → m ≡ measure_text text → told ≡ read_text text (rows_for (length c) (length p) (length q))) → told ≡ fill_from b
+    told_with c p q is said kc kp kq asks = rw (kc, kp, kq) at (asks b.text (rw is at said)) ∙ fill_reads
 
     -- where it is Done, what the pass has put are the rows
     pub fills : {r : Reading} → r ≡ fill_from b → r.answer ≡ done → (c p q : List ℕ)

@@ -1,7 +1,7 @@
 -- The six numbers of a reading, in one call or in two, and what it leaves in the text and in the tables (document 01, "What each number returns
 -- and leaves"; document 02, requests 2 and 6).
 -- Assumes nothing.
-use Rattle.std.specs.Prelude.{ℕ, ◌+◌, ◌/◌, Bool, ◌&&◌, List, length, eqb, leb}
+use Rattle.std.specs.Prelude.{ℕ, ◌+◌, ◌/◌, Bool, ◌&&◌, List, Result, Ok, Err, length, eqb, leb}
 use Rattle.octets.specs.Choice.{pick}
 use Rattle.octets.specs.Laid.{laid}
 use Rattle.octets.specs.declared.Output.{Output}
@@ -13,8 +13,7 @@ use Rattle.tables.specs.Rows.{flat, component_size, property_size, parameter_siz
 use Rattle.nesting.specs.Steps.{State, nothing, Run, finished, stopped, run_of, outcome_of}
 use Rattle.nesting.specs.declared.Counts.{Counts}
 use Rattle.nesting.specs.declared.Refusal.{Refusal}
-use Rattle.nesting.specs.declared.Outcome.{Outcome}
-use Rattle.nesting.specs.declared.Outcome.TheVariants.{Read, Refused}
+use Rattle.nesting.specs.declared.Refused.{Refused}
 use Rattle.reading.specs.declared.Reading.{Reading}
 
 -- this paper's number for each refusal
@@ -80,9 +79,9 @@ fits counts room =
     && (leb counts.properties room.properties && leb counts.parameters room.parameters)
 
 -- what a text answers: why it is refused, or its counts, with the number that these have
-abbrev pub answered : Outcome → ℕ → (Counts → ℕ) → Reading
-answered (Refused r from) size number = refusal (number_of r) (place_of r from) size
-answered (Read counts) size number = told (number counts) 0 size counts
+abbrev pub answered : Result Counts Refused → ℕ → (Counts → ℕ) → Reading
+answered (Err refused) size number = refusal (number_of refused.refusal) (place_of refused.refusal refused.from) size
+answered (Ok counts) size number = told (number counts) 0 size counts
 
 -- 10 where a count exceeds its rows
 abbrev pub by_room : Counts → Counts → ℕ

@@ -1,7 +1,7 @@
 // The public reading, in one call or in two: a feed is unfolded into a lent text, its rows are counted, and put into three lent tables.
 #![tactic(auto)]
 
-ghost use Rattle.std.specs.Prelude.{◌≡◌, true, List, ℕ, ◌≤◌, length};
+ghost use Rattle.std.specs.Prelude.{◌≡◌, true, List, ℕ, ◌≤◌, length, eqb};
 ghost use Rattle.octets.specs.Answers.{longest, done};
 ghost use Rattle.octets.specs.Runs.{only};
 ghost use Rattle.unfolding.specs.Unfold.{unfolded};
@@ -12,8 +12,9 @@ ghost use Rattle.reading.specs.Lent.{read_into, left, fill_from, left_filled};
 ghost use Rattle.reading.specs.NewTables.{is_zero};
 
 use lines::Fault;
-use nesting::{Counts, Outcome, Refusal};
+use nesting::{Counts, Refusal, Refused};
 use octets::Output;
+use tables::{ComponentRow, ParameterRow, PropertyRow, Row};
 
 mod zeros;
 
@@ -26,6 +27,35 @@ pub struct Reading {
     pub components: usize,
     pub properties: usize,
     pub parameters: usize,
+}
+
+impl Reading {
+    pub fn told(answer: u32, place: usize, length: usize, counts: Counts) -> Self
+        ensures { result ≡ told answer place length counts }
+    {
+        Reading {
+            answer,
+            place,
+            length,
+            components: counts.components,
+            properties: counts.properties,
+            parameters: counts.parameters,
+        }
+    }
+
+    // A refusal has no counts.
+    pub fn refusal(answer: u32, place: usize, length: usize) -> Self
+        ensures { result ≡ refusal answer place length }
+    {
+        Reading::told(answer, place, length, Counts::new())
+    }
+
+    // Whether it is Done, and no refusal.
+    pub fn is_done(self) -> bool
+        ensures { result ≡ eqb self.answer done }
+    {
+        self.answer == octets::DONE
+    }
 }
 
 fn fault_number(fault: Fault) -> u32
@@ -44,8 +74,7 @@ fn fault_place(fault: Fault, start: usize) -> usize
     ensures { result ≡ fault_place fault start }
 {
     match fault {
-        Fault::ReservedKey => start,
-        Fault::EmptyKey => start,
+        Fault::ReservedKey | Fault::EmptyKey => start,
         Fault::StrayByte(at) => start + at,
     }
 }
@@ -70,42 +99,18 @@ fn place_of(r: Refusal, from: usize) -> usize
     ensures { result ≡ place_of r from }
 {
     match r {
-        Refusal::BadBegin => from,
-        Refusal::TooDeep => from,
-        Refusal::BadEnd => from,
-        Refusal::Outside => from,
         Refusal::Line(fault) => fault_place(fault, from),
-        Refusal::Unclosed => from,
-        Refusal::NoComponent => from,
+        _ => from,
     }
-}
-
-fn tell(answer: u32, place: usize, length: usize, counts: Counts) -> Reading
-    ensures { result ≡ told answer place length counts }
-{
-    Reading {
-        answer,
-        place,
-        length,
-        components: counts.components,
-        properties: counts.properties,
-        parameters: counts.parameters,
-    }
-}
-
-fn refuse(answer: u32, place: usize, length: usize) -> Reading
-    ensures { result ≡ refusal answer place length }
-{
-    tell(answer, place, length, Counts::new())
 }
 
 // Whether each count has its rows.
 fn have_room(told: Reading, components: &[u32], properties: &[u32], parameters: &[u32]) -> bool
     ensures { result ≡ fits (counts_in told) (room_for (length components.now) (length properties.now) (length parameters.now)) }
 {
-    (told.components <= tables::component_rows(components))
-        & ((told.properties <= tables::property_rows(properties))
-            & (told.parameters <= tables::parameter_rows(parameters)))
+    (told.components <= ComponentRow::count(components))
+        & ((told.properties <= PropertyRow::count(properties))
+            & (told.parameters <= ParameterRow::count(parameters)))
 }
 
 // Unfolds a feed into a text, which stays as it was where the feed does not fit. Returns the unfolded length.
@@ -117,12 +122,11 @@ fn unfold_where_it_fits(feed: &[u8], text: &mut [u8]) -> usize
     if feed.len() <= text.len() {
         return unfolding::unfold_into(feed, text);
     }
-    let mut nothing = [0u8; 0];
-    let n = unfolding::unfold_into(feed, &mut nothing);
-    if text.len() < n {
-        return n;
+    let n = unfolding::unfold_into(feed, &mut []);
+    if n <= text.len() {
+        unfolding::unfold_into(feed, text);
     }
-    unfolding::unfold_into(feed, text)
+    n
 }
 
 // Unfolds a feed into a text that takes all of it; a refusal changes nothing.
@@ -131,11 +135,7 @@ pub fn unfold_feed(feed: &[u8], text: &mut [u8]) -> Output
     ensures text_after { text.new ≡ text_after feed.now text.old }
 {
     if octets::LONGEST < feed.len() {
-        return Output {
-            answer: octets::TOO_LONG,
-            place: 0,
-            length: 0,
-        };
+        return Output::refusal(octets::TOO_LONG, 0);
     }
     let length = unfold_where_it_fits(feed, text);
     if text.len() < length {
@@ -145,21 +145,19 @@ pub fn unfold_feed(feed: &[u8], text: &mut [u8]) -> Output
             length,
         };
     }
-    Output {
-        answer: octets::DONE,
-        place: 0,
-        length,
-    }
+    Output::done(length)
 }
 
 // What a text answers by itself, by what was met in it: its counts, or why it is refused.
-fn tell_outcome(outcome: Outcome, size: usize) -> Reading
+fn tell_outcome(outcome: Result<Counts, Refused>, size: usize) -> Reading
     requires { (answered outcome size (λ counts. done)).place ≤ longest }
     ensures { result ≡ answered outcome size (λ counts. done) }
 {
     match outcome {
-        Outcome::Refused(r, from) => refuse(number_of(r), place_of(r, from), size),
-        Outcome::Read(counts) => tell(octets::DONE, 0, size, counts),
+        Ok(counts) => Reading::told(octets::DONE, 0, size, counts),
+        Err(Refused { refusal, from }) => {
+            Reading::refusal(number_of(refusal), place_of(refusal, from), size)
+        }
     }
 }
 
@@ -172,23 +170,17 @@ fn measure_text(text: &[u8]) -> Reading
 }
 
 // What a text answers with these tables, by what it answers by itself.
-fn ask_room(
-    mut told: Reading,
-    components: &[u32],
-    properties: &[u32],
-    parameters: &[u32],
-) -> Reading
+fn ask_room(told: Reading, components: &[u32], properties: &[u32], parameters: &[u32]) -> Reading
     ensures { (text : List ℕ) → told ≡ measure_text text →
         result ≡ read_text text (room_for (length components.now) (length properties.now) (length parameters.now)) }
 {
-    if told.answer != octets::DONE {
+    if !told.is_done() || have_room(told, components, properties, parameters) {
         return told;
     }
-    if have_room(told, components, properties, parameters) {
-        return told;
+    Reading {
+        answer: octets::NO_ROOM,
+        ..told
     }
-    told.answer = octets::NO_ROOM;
-    told
 }
 
 // Unfolds a feed into the text, and tells the rows that it needs.
@@ -197,11 +189,10 @@ pub fn measure_components(feed: &[u8], text: &mut [u8]) -> Reading
     ensures text_after { text.new ≡ text_after feed.now text.old }
 {
     let unfolded = unfold_feed(feed, text);
-    if unfolded.answer != octets::DONE {
-        return refuse(unfolded.answer, unfolded.place, unfolded.length);
+    if !unfolded.is_done() {
+        return Reading::refusal(unfolded.answer, unfolded.place, unfolded.length);
     }
-    let n = unfolded.length;
-    measure_text(&text[0..n])
+    measure_text(&text[..unfolded.length])
 }
 
 // Counts the rows first, and puts them where there is room for all.
@@ -217,10 +208,9 @@ fn fill_used(
         ≡ left_filled (lent text.now components.old properties.old parameters.old) }
 {
     let told = ask_room(measure_text(text), components, properties, parameters);
-    if told.answer != octets::DONE {
-        return told;
+    if told.is_done() {
+        let _ = nesting::pass(text, components, properties, parameters);
     }
-    nesting::pass(text, components, properties, parameters);
     told
 }
 
@@ -244,12 +234,11 @@ fn fill_new(
         properties,
         parameters,
     );
-    if told.answer == octets::DONE {
-        return told;
+    if !told.is_done() {
+        zeros::clear(components);
+        zeros::clear(properties);
+        zeros::clear(parameters);
     }
-    zeros::clear(components);
-    zeros::clear(properties);
-    zeros::clear(parameters);
     told
 }
 
@@ -258,13 +247,8 @@ fn fill_new(
 fn is_new(table: &[u32], size: usize) -> bool
     ensures { result ≡ true → only is_zero table.now ≡ true }
 {
-    if size / 2 < table.len() {
+    if size / 2 < table.len() || table.first().is_some_and(|word| *word != 0) {
         return false;
-    }
-    if 0 < table.len() {
-        if table[0] != 0 {
-            return false;
-        }
     }
     zeros::all_zero(table)
 }
@@ -273,13 +257,7 @@ fn is_new(table: &[u32], size: usize) -> bool
 fn are_new(size: usize, components: &[u32], properties: &[u32], parameters: &[u32]) -> bool
     ensures { result ≡ true → (only is_zero components.now ≡ true) × (only is_zero properties.now ≡ true) × (only is_zero parameters.now ≡ true) }
 {
-    if !is_new(components, size) {
-        return false;
-    }
-    if !is_new(properties, size) {
-        return false;
-    }
-    is_new(parameters, size)
+    is_new(components, size) && is_new(properties, size) && is_new(parameters, size)
 }
 
 // Reads an unfolded text into the tables, or refuses and leaves them as they were. With new tables the text is read once, with others twice.
@@ -294,7 +272,7 @@ pub fn fill_components(
         ≡ left_filled (lent text.now components.old properties.old parameters.old) }
 {
     if octets::LONGEST < text.len() {
-        return refuse(octets::TOO_LONG, 0, 0);
+        return Reading::refusal(octets::TOO_LONG, 0, 0);
     }
     if are_new(text.len(), components, properties, parameters) {
         return fill_new(text, components, properties, parameters);
@@ -315,9 +293,8 @@ pub fn read_components(
         ≡ left feed.now (lent text.old components.old properties.old parameters.old) }
 {
     let unfolded = unfold_feed(feed, text);
-    if unfolded.answer != octets::DONE {
-        return refuse(unfolded.answer, unfolded.place, unfolded.length);
+    if !unfolded.is_done() {
+        return Reading::refusal(unfolded.answer, unfolded.place, unfolded.length);
     }
-    let n = unfolded.length;
-    fill_components(&text[0..n], components, properties, parameters)
+    fill_components(&text[..unfolded.length], components, properties, parameters)
 }

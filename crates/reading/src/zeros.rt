@@ -8,10 +8,8 @@ pub fn all_zero(table: &[u32]) -> bool
     ensures { result ≡ only is_zero table.now }
 {
     let mut hit: u8 = 0;
-    let mut i: usize = 0;
-    while i < table.len() {
-        hit = hit | (table[i] != 0) as u8;
-        i += 1;
+    for word in table {
+        hit |= u8::from(*word != 0);
     }
     hit == 0
 }
@@ -20,9 +18,5 @@ pub fn all_zero(table: &[u32]) -> bool
 pub fn clear(table: &mut [u32])
     ensures { table.new ≡ replicate (length table.old) 0 }
 {
-    let mut i: usize = 0;
-    while i < table.len() {
-        table[i] = 0;
-        i += 1;
-    }
+    table.fill(0);
 }

@@ -8,11 +8,14 @@ use native.Mathlib.Numerals.{add-one}
 use native.Mathlib.Omega.{arith}
 use lib.ListN.{length, get_or, drop}
 use lib.Seq.{drop-cons, drop-drop, get_or-drop}
-use lib.Dec.{eqb}
-use borrow.Author.Tests.{eqb-true}
+use lib.Dec.{eqb, ltb}
+use lib.Bits.{bit_or}
+use mir.Val.{bool_byte}
+use borrow.Author.Tests.{eqb-true, lt-ltb, le-ltb}
 use Rattle.octets.specs.Choice.{pick}
 use Rattle.octets.specs.Bytes.{blank, lf, other}
 use Rattle.octets.specs.Runs.{run}
+use Rattle.octets.proofs.Hits.{onward}
 use Rattle.unfolding.specs.Folds.{is_fold, to_fold}
 
 -- a fold stands at the front
@@ -111,3 +114,22 @@ unfolding to_fold
 at_last [] h = refl
 at_last (x ∷ []) h = rw (and-false (eqb x lf))
 at_last (x ∷ y ∷ xs) h = absurd (omega arith)
+
+-- ---- a loop over a block, with a byte that is 1 once a fold was seen
+
+-- where no fold stands before j, the first one stands there exactly where the bytes are one
+ends : (feed : List ℕ) (at j : ℕ) → at + j < length feed → j ≤ to_fold (drop at feed)
+    → is_fold (get_or feed (at + j) 0) (get_or feed (at + j + 1) 0) ≡ ltb (to_fold (drop at feed)) (j + 1)
+ends feed at j h k = go (is_fold (get_or feed (at + j) 0) (get_or feed (at + j + 1) 0)) refl
+  where
+    r : j + to_fold (drop (at + j) feed) ≡ to_fold (drop at feed)
+    r = passed feed at j k
+
+    go : (t : Bool) → is_fold (get_or feed (at + j) 0) (get_or feed (at + j + 1) 0) ≡ t → t ≡ ltb (to_fold (drop at feed)) (j + 1)
+    go true e = sym (lt-ltb (to_fold (drop at feed)) (j + 1) (omega (arith, r, stop feed (at + j) h e)))
+    go false e = sym (le-ltb (to_fold (drop at feed)) (j + 1) (omega (arith, r, on feed (at + j) h e)))
+
+pub fold_more : (feed : List ℕ) (at j : ℕ) → at + j < length feed → {hit : ℕ} → hit ≡ bool_byte (ltb (to_fold (drop at feed)) j)
+    → bit_or hit (bool_byte (is_fold (get_or feed (at + j) 0) (get_or feed (at + j + 1) 0))) ≡ bool_byte (ltb (to_fold (drop at feed)) (j + 1))
+fold_more feed at j h e =
+    rw e (onward (to_fold (drop at feed)) j (is_fold (get_or feed (at + j) 0) (get_or feed (at + j + 1) 0)) (λ k. ends feed at j h k))

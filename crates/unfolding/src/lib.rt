@@ -30,11 +30,8 @@ fn any_fold_of_64(feed: &[u8], at: usize) -> bool
         return false;
     }
     let mut hit: u8 = 0;
-    let mut j: usize = 0;
-    while j < 64 {
-        let i = at + j;
-        hit = hit | is_fold(feed[i], feed[i + 1]) as u8;
-        j += 1;
+    for j in 0..64 {
+        hit |= u8::from(is_fold(feed[at + j], feed[at + j + 1]));
     }
     hit != 0
 }
@@ -44,14 +41,9 @@ fn skip_blocks(feed: &[u8], from: usize) -> usize
     requires { from ≤ length feed.now }
     ensures { (result ≤ length feed.now) × (result + to_fold (drop result feed.now) ≡ from + to_fold (drop from feed.now)) }
 {
+    // An index, as each step takes 64 bytes.
     let mut i = from;
-    while i < feed.len() {
-        if feed.len() - i <= 64 {
-            return i;
-        }
-        if any_fold_of_64(feed, i) {
-            return i;
-        }
+    while 64 < feed.len() - i && !any_fold_of_64(feed, i) {
         i += 64;
     }
     i
@@ -63,6 +55,7 @@ fn next_fold(feed: &[u8], from: usize) -> usize
     ensures { result ≡ from + to_fold (drop from feed.now) }
 {
     let last = feed.len() - 1;
+    // An index, as each step takes a whole line.
     let mut i = skip_blocks(feed, from);
     while i < last {
         let end = octets::find_near(feed, i, b'\n');
@@ -90,11 +83,11 @@ fn piece_at(feed: &[u8], i: usize) -> Piece
         };
     }
     let next = fold + 2;
-    if i < fold {
-        let last = fold - 1;
-        if feed[last] == b'\r' {
-            return Piece { end: last, next };
-        }
+    if i < fold && feed[fold - 1] == b'\r' {
+        return Piece {
+            end: fold - 1,
+            next,
+        };
     }
     Piece { end: fold, next }
 }
@@ -104,11 +97,11 @@ pub fn unfold_into(feed: &[u8], text: &mut [u8]) -> usize
     ensures { Unfolding feed.now text.old text.new result }
 {
     let mut n: usize = 0;
+    // An index, as each step takes a piece.
     let mut i: usize = 0;
     while i < feed.len() {
         let piece = piece_at(feed, i);
-        let end = piece.end;
-        n = octets::lay(&feed[i..end], text, n);
+        n = octets::lay(&feed[i..piece.end], text, n);
         i = piece.next;
     }
     n

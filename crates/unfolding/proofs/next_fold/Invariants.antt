@@ -1,0 +1,11 @@
+-- `unfolding::next_fold`: what was passed holds no fold, so the first one from i on is the first one.
+-- Assumes nothing.
+use Rattle.std.proofs.Common.{◌≡◌, ◌+◌, ◌-◌, ◌≤◌, length, drop}
+use Rattle.unfolding.specs.Folds.{to_fold}
+use Rattle.unfolding.proofs.next_fold.Given as goal
+
+abbrev pub invariant-loop-i : goal.invariant-loop-i
+invariant-loop-i l = (l.i ≤ length l.feed) × (l.i + to_fold (drop l.i l.feed) ≡ l.from + to_fold (drop l.from l.feed))
+
+abbrev pub decreases-loop-i : goal.decreases-loop-i
+decreases-loop-i l = length l.feed - l.i
