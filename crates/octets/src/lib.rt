@@ -1,13 +1,12 @@
 // Bytes: their classes, keys, equal parts, words in any case, views, and the numbers that every answer is made of.
 #![tactic(auto)]
 
-ghost use Rattle.std.specs.Prelude.{◌≡◌, false, ◌∷◌, [], ◌++◌, ◌+◌, ◌≤◌, min, length, get_or, take, drop, eqb, leb, ltb};
-ghost use Rattle.octets.specs.Bytes.{key_byte, lowered, other};
+ghost use Rattle.std.specs.Prelude.{◌≡◌, ℕ, Bool, ◌<◌, false, ◌∷◌, [], ◌++◌, ◌+◌, ◌≤◌, min, length, get_or, take, drop, eqb, leb, ltb};
+ghost use Rattle.octets.specs.Bytes.{capital, common, key_byte, lowered, other};
 ghost use Rattle.octets.specs.Laid.{laid, counted, Lays};
-ghost use Rattle.octets.specs.Answers.{room_answer};
+ghost use Rattle.octets.specs.Answers.{done, output, room_answer};
 ghost use Rattle.octets.specs.Runs.{run};
 ghost use Rattle.octets.specs.Numbers.{marks, eight};
-ghost use Rattle.octets.specs.Classes.{member};
 ghost use Rattle.octets.specs.Words.{same_bytes, same_word, starts_word};
 ghost use Rattle.octets.specs.Keys.{key_of, opens_reserved, reserved, stands_alone, stops_at};
 ghost use Rattle.octets.specs.Views.{viewed, viewed_at, bytes_on};
@@ -67,6 +66,37 @@ pub struct Output {
     pub length: usize,
 }
 
+impl Output {
+    // A refusal, at the place that it names.
+    pub fn refusal(answer: u32, place: usize) -> Output
+        ensures { result ≡ output answer place 0 }
+    {
+        Output {
+            answer,
+            place,
+            length: 0,
+        }
+    }
+
+    // Done, with so many bytes.
+    pub fn done(length: usize) -> Output
+        ensures { result ≡ output done 0 length }
+    {
+        Output {
+            answer: DONE,
+            place: 0,
+            length,
+        }
+    }
+
+    // Whether it is Done, and no refusal.
+    pub fn is_done(self) -> bool
+        ensures { result ≡ eqb self.answer done }
+    {
+        self.answer == DONE
+    }
+}
+
 // A part of a line or of a text.
 #[derive(Clone, Copy)]
 pub struct Span {
@@ -74,17 +104,11 @@ pub struct Span {
     pub len: usize,
 }
 
-// The key at the front of a line: refused, or as many bytes.
-#[derive(Clone, Copy)]
-pub enum Key {
-    Reserved,
-    Run(usize),
-}
-
 // Passes over capital letters at the front, eight bytes at a time: most keys are made of them.
 fn skip_capitals(line: &[u8]) -> usize
     ensures { (result ≤ length line.now) × (result + run key_byte (drop result line.now) ≡ run key_byte line.now) }
 {
+    // An index, as each step takes eight bytes.
     let mut i: usize = 0;
     let mut left = line.len();
     while 8 <= left {
@@ -110,46 +134,67 @@ fn is_key_byte(b: u8) -> bool
     capital | (small | (digit | mark))
 }
 
+// The length of the longest run of bytes of a class at the front. The closure tells which bytes are of the class.
+pub fn run_while<F: Fn(u8) -> bool>(a: &[u8], is_in: F) -> usize
+    requires { F.IsAlwaysCallable is_in }
+    ensures inside { result ≤ length a.now }
+    ensures longest { (class : ℕ → Bool) → ((x : ℕ) (b : Bool) → x < 256 → F.post is_in x b → b ≡ class x) → result ≡ run class a.now }
+{
+    for (i, x) in a.iter().enumerate() {
+        if !is_in(*x) {
+            return i;
+        }
+    }
+    a.len()
+}
+
 // The length of the longest run of key bytes at the front.
 pub fn key_run(line: &[u8]) -> usize
     ensures { result ≡ run key_byte line.now }
 {
-    let mut i = skip_capitals(line);
-    while i < line.len() {
-        if !is_key_byte(line[i]) {
-            return i;
-        }
-        i += 1;
-    }
-    i
+    let n = skip_capitals(line);
+    n + run_while(&line[n..], is_key_byte)
 }
 
 // A class of bytes that eight are asked for at once.
-#[derive(Clone, Copy)]
-pub enum Class {
-    Capital,
-    Common,
+pub trait Class {
+    ghost has: { ℕ → Bool };
+
+    // Marks each of the 8 bytes from `at` on that is not of the class.
+    fn marks_outside(text: &[u8], at: usize) -> u64
+        requires { at + 8 ≤ length text.now }
+        ensures { result ≡ marks has (eight text.now at) };
 }
 
-// Marks each of the 8 bytes from `at` on that is not of the class.
-fn marks_outside(class: Class, text: &[u8], at: usize) -> u64
-    requires { at + 8 ≤ length text.now }
-    ensures { result ≡ marks (member class) (eight text.now at) }
-{
-    match class {
-        Class::Capital => eights::marks_of_others(text, at),
-        Class::Common => eights::marks_of_uncommon(text, at),
+pub struct Capital;
+
+impl Class for Capital {
+    ghost has = { capital };
+
+    fn marks_outside(text: &[u8], at: usize) -> u64 {
+        eights::marks_of_others(text, at)
+    }
+}
+
+pub struct Common;
+
+impl Class for Common {
+    ghost has = { common };
+
+    fn marks_outside(text: &[u8], at: usize) -> u64 {
+        eights::marks_of_uncommon(text, at)
     }
 }
 
 // Whether the n bytes from `at` on are of the class. Eight are looked at together, and so are some behind the n.
-pub fn all_of(class: Class, text: &[u8], at: usize, n: usize) -> bool
+pub fn all_of<C: Class>(text: &[u8], at: usize, n: usize) -> bool
     requires { at + n + 8 ≤ length text.now }
-    ensures { result ≡ leb n (run (member class) (drop at text.now)) }
+    ensures { result ≡ leb n (run C.has (drop at text.now)) }
 {
+    // An index, as each step takes eight bytes.
     let mut i: usize = 0;
     while i < n {
-        let marked = marks_outside(class, text, at + i);
+        let marked = C::marks_outside(text, at + i);
         if marked != 0 {
             return n - i <= eights::first_mark(marked);
         }
@@ -182,10 +227,8 @@ pub fn any_of_64(a: &[u8], at: usize, b: u8) -> bool
     ensures { result ≡ ltb (run (other b) (drop at a.now)) 64 }
 {
     let mut hit: u8 = 0;
-    let mut j: usize = 0;
-    while j < 64 {
-        hit = hit | (a[at + j] == b) as u8;
-        j += 1;
+    for x in &a[at..at + 64] {
+        hit |= (*x == b) as u8;
     }
     hit != 0
 }
@@ -194,23 +237,15 @@ pub fn any_of_64(a: &[u8], at: usize, b: u8) -> bool
 pub fn find_byte(a: &[u8], from: usize, b: u8) -> usize
     ensures { result ≡ from + run (other b) (drop from a.now) }
 {
+    if a.len() <= from {
+        return from;
+    }
+    // An index, as each step takes 64 bytes.
     let mut i = from;
-    while i < a.len() {
-        if a.len() - i < 64 {
-            break;
-        }
-        if any_of_64(a, i, b) {
-            break;
-        }
+    while 64 <= a.len() - i && !any_of_64(a, i, b) {
         i += 64;
     }
-    while i < a.len() {
-        if a[i] == b {
-            return i;
-        }
-        i += 1;
-    }
-    i
+    i + run_while(&a[i..], |x| x != b)
 }
 
 // The same place, for a byte that is expected near: eight bytes at a time at first, and in blocks where it is far after all.
@@ -220,8 +255,9 @@ pub fn find_near(a: &[u8], from: usize, b: u8) -> usize
     if a.len() <= from {
         return from;
     }
+    // An index, as each step takes eight bytes.
     let mut i = from;
-    let mut left = least(a.len() - from, NEAR);
+    let mut left = NEAR.min(a.len() - from);
     while 8 <= left {
         let marked = eights::marks_of(a, i, b);
         if marked != 0 {
@@ -236,7 +272,7 @@ pub fn find_near(a: &[u8], from: usize, b: u8) -> usize
 pub fn least(a: usize, b: usize) -> usize
     ensures { result ≡ min a b }
 {
-    if a < b { a } else { b }
+    a.min(b)
 }
 
 // Lays the bytes over the front of a buffer, as far as it goes, one after the other. The loop becomes vector code.
@@ -292,21 +328,18 @@ pub fn put(bytes: &[u8], out: &mut [u8])
     put_each(bytes, out)
 }
 
-// The largest number of 64 bits, where a count stops.
-const MOST: usize = 18_446_744_073_709_551_615;
-
 // A count goes on, as far as 64 bits go.
 pub fn count_on(count: usize, more: usize) -> usize
     ensures { result ≡ counted (count + more) }
 {
-    count + least(more, MOST - count)
+    count.saturating_add(more)
 }
 
 // Lays the bytes over the buffer from `at` on, as far as it goes, and counts them in full.
 pub fn lay(bytes: &[u8], out: &mut [u8], at: usize) -> usize
     ensures { Lays at bytes.now out.old out.new result }
 {
-    let from = least(at, out.len());
+    let from = at.min(out.len());
     put(bytes, &mut out[from..]);
     count_on(at, bytes.len())
 }
@@ -333,11 +366,7 @@ pub fn room_for(needed: usize, room: usize) -> Output
             length: needed,
         };
     }
-    Output {
-        answer: DONE,
-        place: 0,
-        length: needed,
-    }
+    Output::done(needed)
 }
 
 // How many bytes at the front of two texts of one length are seen to be the same, eight at a time. It stops at the first eight
@@ -364,41 +393,16 @@ pub fn same_bytes(a: &[u8], b: &[u8]) -> bool
     if a.len() != b.len() {
         return false;
     }
-    let mut i = same_eights(a, b);
-    // Eight that differ tell at once. What is left otherwise is less than eight, and is compared byte by byte.
-    if 8 <= a.len() - i {
-        return false;
-    }
-    while i < a.len() {
-        if a[i] != b[i] {
-            return false;
-        }
-        i += 1;
-    }
-    true
+    let n = same_eights(a, b);
+    // Eight that differ tell at once. What is left otherwise is less than eight.
+    a.len() - n < 8 && a[n..] == b[n..]
 }
 
 // A letter in lower case, and any other byte as it is.
 pub fn lower(b: u8) -> u8
     ensures { result ≡ lowered b }
 {
-    if b < b'A' {
-        return b;
-    }
-    if b'Z' < b {
-        return b;
-    }
-    b + 32
-}
-
-// Whether two bytes are the same, in any case if they are letters.
-fn same_letter(a: u8, b: u8) -> bool
-    ensures { result ≡ eqb (lowered a) (lowered b) }
-{
-    if a == b {
-        return true;
-    }
-    lower(a) == lower(b)
+    b.to_ascii_lowercase()
 }
 
 // Whether two words are the same, in any case of their letters. Those that are mostly have the same bytes.
@@ -408,41 +412,24 @@ pub fn same_word(a: &[u8], b: &[u8]) -> bool
     if a.len() != b.len() {
         return false;
     }
-    let mut i = same_eights(a, b);
-    while i < a.len() {
-        if !same_letter(a[i], b[i]) {
-            return false;
-        }
-        i += 1;
-    }
-    true
+    let n = same_eights(a, b);
+    a[n..].eq_ignore_ascii_case(&b[n..])
 }
 
 // Whether the line starts with the word, in any case of its letters.
 pub fn starts_word(word: &[u8], line: &[u8]) -> bool
     ensures { result ≡ starts_word word.now line.now }
 {
-    let mut i: usize = 0;
-    while i < word.len() {
-        if line.len() <= i {
-            return false;
-        }
-        if !same_letter(line[i], word[i]) {
-            return false;
-        }
-        i += 1;
-    }
-    true
+    word.len() <= line.len() && line[..word.len()].eq_ignore_ascii_case(word)
 }
 
 // Whether the line has `:`, `;` or its end at n.
 fn stops_at(n: usize, line: &[u8]) -> bool
     ensures { result ≡ stops_at n line.now }
 {
-    if line.len() <= n {
+    let Some(&b) = line.get(n) else {
         return true;
-    }
-    let b = line[n];
+    };
     (b == b':') | (b == b';')
 }
 
@@ -457,31 +444,24 @@ fn stands_alone(word: &[u8], line: &[u8]) -> bool
 pub fn may_be_reserved(line: &[u8]) -> bool
     ensures { result ≡ opens_reserved (get_or line.now 0 0) }
 {
-    if line.len() == 0 {
-        return false;
-    }
-    let b = line[0];
-    (b == b'B') | (b == b'b') | (b == b'E') | (b == b'e')
+    matches!(line.first(), Some(b'B' | b'b' | b'E' | b'e'))
 }
 
 // Whether BEGIN or END stands at the front of a line and ends there. BEGINNING does not count.
 pub fn is_reserved(line: &[u8]) -> bool
     ensures { result ≡ reserved line.now }
 {
-    if !may_be_reserved(line) {
-        return false;
-    }
-    stands_alone(b"BEGIN", line) | stands_alone(b"END", line)
+    may_be_reserved(line) && (stands_alone(b"BEGIN", line) | stands_alone(b"END", line))
 }
 
-// The key at the front of a line.
-pub fn property_key(line: &[u8]) -> Key
+// How many bytes the key at the front of a line has. BEGIN and END are no key of a property.
+pub fn property_key(line: &[u8]) -> Option<usize>
     ensures { result ≡ key_of line.now }
 {
     if is_reserved(line) {
-        return Key::Reserved;
+        return None;
     }
-    Key::Run(key_run(line))
+    Some(key_run(line))
 }
 
 // The part of a text, or the empty part at its front where start and len reach outside.
@@ -489,12 +469,10 @@ pub fn view(text: &[u8], start: usize, len: usize) -> &[u8]
     ensures bytes_value { result.now ≡ viewed text.now start len }
     ensures place_value { result.ref_ptr ≡ bytes_on (viewed_at text.now start len) text.entry.ref_ptr }
 {
-    if text.len() < start {
-        return &text[0..0];
+    let inside = start <= text.len() && len <= text.len() - start;
+    if inside {
+        &text[start..start + len]
+    } else {
+        &text[..0]
     }
-    if text.len() - start < len {
-        return &text[0..0];
-    }
-    let end = start + len;
-    &text[start..end]
 }

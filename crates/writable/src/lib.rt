@@ -11,7 +11,7 @@ ghost use Rattle.tables.specs.Rows.{property_size, parameter_size};
 ghost use Rattle.tables.specs.Lent.{lent, components_in, properties_in, parameters_in};
 ghost use Rattle.writable.specs.WritingRule.{name_fits, key_fits, no_break, clean, present_fits, verdict, component_verdict, property_verdict, parameter_verdict, judged_from, judged_in};
 
-use octets::Class;
+use octets::{Capital, Common};
 use tables::{ComponentRow, ParameterRow, PropertyRow};
 
 // What one row is found to be.
@@ -37,7 +37,7 @@ fn is_capital(text: &[u8], start: u32, len: u32) -> bool
     if !octets::eight_behind(text, start, len) {
         return false;
     }
-    octets::all_of(Class::Capital, text, start as usize, len as usize)
+    octets::all_of::<Capital>(text, start as usize, len as usize)
 }
 
 // Whether it is seen to be made of bytes that stop no value, as most values are.
@@ -47,7 +47,7 @@ fn is_common(text: &[u8], start: u32, len: u32) -> bool
     if !octets::eight_behind(text, start, len) {
         return false;
     }
-    octets::all_of(Class::Common, text, start as usize, len as usize)
+    octets::all_of::<Common>(text, start as usize, len as usize)
 }
 
 // Whether a part of the text is made of key bytes.
