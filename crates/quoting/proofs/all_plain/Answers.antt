@@ -1,8 +1,6 @@
 -- A byte more is tried.
-use Rattle.std.proofs.Common.{◌≡◌, ◌&&◌, ◌||◌, Bool, true, false, not, refl, ap, sym}
-use Rattle.octets.specs.Runs.{only}
+use Rattle.std.proofs.Common.{◌≡◌, ◌&&◌, ◌||◌, Bool, true, false, not, refl}
 use Rattle.octets.proofs.Runs.{tried_more}
-use Rattle.quoting.specs.Quoting.{plain}
 use Rattle.quoting.proofs.all_plain.Goals as goal
 
 none_of : (a b c : Bool) → (not a && not b) && not c ≡ not (a || (b || c))

@@ -1,5 +1,5 @@
 -- The value as it is, or a quote, the value and a quote in turn.
-use Rattle.std.proofs.Common.{[], ◌∷◌, ◌++◌, refl, sym, ◌∙◌, rules, arith}
+use Rattle.std.proofs.Common.{[], ◌∷◌, ◌++◌, refl, rules, arith}
 use Rattle.octets.specs.Bytes.{quote}
 use Rattle.octets.proofs.Writing.{start, more, end, from_as}
 use Rattle.quoting.specs.Quoting.{quoted}

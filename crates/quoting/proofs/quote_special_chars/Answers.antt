@@ -1,10 +1,10 @@
 -- Too long a value, a refusal for room, or the value quoted.
-use Rattle.std.proofs.Common.{length, sym, ◌∙◌, rules}
+use Rattle.std.proofs.Common.{length, sym, ◌∙◌}
 use borrow.Author.Tests.{eqb-false}
 use Rattle.octets.proofs.Answers.{kept}
 use Rattle.octets.proofs.Writing.{from_front}
 use Rattle.quoting.specs.Quoting.{quoted}
-use Rattle.quoting.proofs.Laws.{when_too_long, counts}
+use Rattle.quoting.proofs.Laws.{counts}
 use Rattle.quoting.proofs.quote_special_chars.Goals as goal
 
 pub returns-else-is_done : goal.returns-else-is_done
