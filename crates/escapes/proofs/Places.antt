@@ -2,12 +2,12 @@
 use mathlib.Core.Path.{◌≡◌, refl, sym, ap, ◌∙◌}
 use mathlib.Core.Bool.{Bool, true, false}
 use mathlib.Core.List.{List, [], ◌∷◌}
-use Prim.Native.Nat.{ℕ, suc, ◌+◌, ◌-◌, ◌≤◌, ◌<◌}
+use Prim.Native.Nat.{ℕ, ◌+◌, ◌-◌, ◌≤◌, ◌<◌}
 use native.Mathlib.Nat.{zero-add}
 use native.Mathlib.Numerals.{add-one}
 use native.Mathlib.Omega.{arith}
-use lib.ListN.{length, set, get_or, take, drop, drop_of_length-le, length-append, length-drop, length-set, get_or-eq_default}
-use lib.Seq.{drop-cons, drop-drop, get_or-drop, length-take-le, sets, sets-eq}
+use lib.ListN.{length, set, get_or, take, drop, length-append, length-drop, length-set, get_or-eq_default}
+use lib.Seq.{length-take-le, sets, sets-eq}
 use lib.Dec.{leb}
 use borrow.Author.Tests.{ne_eqb, leb-true, leb-false, le-leb, lt-leb}
 use Rattle.std.specs.Prelude.{Result, Ok, Err}
@@ -20,7 +20,7 @@ use Rattle.octets.proofs.Runs.{within}
 use Rattle.escapes.specs.Text.{backslash, escapable, meant, fine, escapes_fine, text_of}
 use Rattle.escapes.specs.Turns.{scanned, Unit}
 use Rattle.escapes.specs.declared.Mode.{Mode}
-use Rattle.escapes.proofs.Reading.{fine_plain, fine_escape, fine_bad, fine_run, text_plain, text_escape, text_last, text_run, some_text, text_length}
+use Rattle.escapes.proofs.Reading.{fine_plain, fine_escape, fine_bad, fine_run, text_plain, text_escape, text_last, text_run, text_length}
 
 -- nothing behind the end is escapable
 pub none_behind : (mode : Mode) (value : List ℕ) (n : ℕ) → length value ≤ n → escapable mode (get_or value n 0) ≡ false

@@ -136,12 +136,10 @@ fn block_length(block: &[u8]) -> usize
     ensures { result ≡ length (as_value block.now) }
 {
     let mut more: u8 = 0;
-    let mut i: usize = 0;
-    while i < block.len() {
-        more += special(block[i]) as u8;
-        i += 1;
+    for b in block {
+        more += u8::from(special(*b));
     }
-    block.len() + more as usize
+    block.len() + usize::from(more)
 }
 
 // How long the value of a text is.
@@ -149,12 +147,9 @@ fn value_length(text: &[u8]) -> usize
     requires { length text.now ≤ longest }
     ensures { result ≡ length (as_value text.now) }
 {
-    let mut n: usize = 0;
-    let mut i: usize = 0;
-    while i < text.len() {
-        let end = i + octets::least(128, text.len() - i);
-        n += block_length(&text[i..end]);
-        i = end;
+    let mut n = 0;
+    for block in text.chunks(128) {
+        n += block_length(block);
     }
     n
 }
@@ -174,18 +169,15 @@ fn lay_each(text: &[u8], out: &mut [u8]) -> usize
     requires { length (as_value text.now) ≤ length out.old }
     ensures { Written text.now out.old out.new result }
 {
-    let mut i: usize = 0;
-    let mut at: usize = 0;
-    while i < text.len() {
-        let b = text[i];
-        i += 1;
-        if !special(b) {
-            out[at] = b;
+    let mut at = 0;
+    for b in text {
+        if !special(*b) {
+            out[at] = *b;
             at += 1;
             continue;
         }
         out[at] = b'\\';
-        out[at + 1] = letter(b);
+        out[at + 1] = letter(*b);
         at += 2;
     }
     at
@@ -211,12 +203,9 @@ fn lay_value(text: &[u8], out: &mut [u8]) -> usize
     requires { length (as_value text.now) ≤ length out.old }
     ensures { Written text.now out.old out.new result }
 {
-    let mut i: usize = 0;
-    let mut at: usize = 0;
-    while i < text.len() {
-        let end = i + octets::least(8, text.len() - i);
-        at += lay_part(&text[i..end], &mut out[at..]);
-        i = end;
+    let mut at = 0;
+    for part in text.chunks(8) {
+        at += lay_part(part, &mut out[at..]);
     }
     at
 }

@@ -1,5 +1,5 @@
 -- A text as long as its value is the value.
-use Rattle.std.proofs.Common.{◌≡◌, length, arith, sym, ◌∙◌, ap, List, ℕ}
+use Rattle.std.proofs.Common.{arith, sym, ◌∙◌, ap, List, ℕ}
 use Rattle.octets.specs.Laid.{laid}
 use Rattle.escapes.proofs.Places.{scanned_fine}
 use Rattle.escapes.proofs.Reading.{text_itself}

@@ -1,5 +1,5 @@
 -- From the first backslash on.
-use Rattle.std.proofs.Common.{rules, arith, length}
+use Rattle.std.proofs.Common.{rules, arith}
 use Rattle.octets.specs.Bytes.{other}
 use Rattle.octets.proofs.Lists.{lent}
 use Rattle.octets.proofs.Runs.{within}

@@ -1,5 +1,5 @@
 -- Bytes that differ, a byte more of both, or the end of one.
-use Rattle.std.proofs.Common.{rules, arith, ◌∙◌}
+use Rattle.std.proofs.Common.{◌∙◌}
 use Rattle.escapes.proofs.Alike.{pair_differs, pair_more, ends_one, ends_other}
 use Rattle.escapes.proofs.read_alike.Goals as goal
 use Rattle.escapes.proofs.read_alike.Goals.{in_default, in_default-2}

@@ -1,6 +1,6 @@
 -- Values of the same bytes are alike.
 use Rattle.std.proofs.Common.{sym, ◌∙◌}
-use Rattle.escapes.proofs.Alike.{alike_bytes, alike_long, alike_read}
+use Rattle.escapes.proofs.Alike.{alike_bytes}
 use Rattle.escapes.proofs.same_text.Goals as goal
 
 pub returns-then-same_bytes : goal.returns-then-same_bytes
