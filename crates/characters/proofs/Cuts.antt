@@ -1,6 +1,6 @@
 -- Laws of the last start within so many bytes, and of the loop that looks back for it. Assumes nothing.
 use mathlib.Core.Path.{◌≡◌, refl, sym, ap, ◌∙◌}
-use mathlib.Core.Bool.{Bool, true, false, ◌&&◌}
+use mathlib.Core.Bool.{Bool, true, false}
 use mathlib.Core.List.{List, [], ◌∷◌, ◌++◌}
 use Prim.Native.Nat.{ℕ, suc, ◌+◌, ◌-◌, ◌≤◌, ◌<◌, min}
 use native.Mathlib.Numerals.{add-one}
@@ -8,7 +8,7 @@ use native.Mathlib.Omega.{arith}
 use lib.ListN.{length, take, drop, get_or, take-append-drop}
 use lib.Seq.{drop-cons, take-suc, length-take-le}
 use lib.Dec.{leb}
-use borrow.Author.Tests.{leb-false}
+use borrow.Author.Tests.{leb-true, leb-false}
 use Rattle.octets.specs.Choice.{pick}
 use Rattle.octets.specs.Runs.{run}
 use Rattle.octets.proofs.Runs.{on, stop}
@@ -82,14 +82,13 @@ one_less back asked some e f = omega arith
 
 module _ {xs : List ℕ} {room back : ℕ} (p : Back xs room back) (inside : room < length xs) where
   -- four tails, or nothing but tails: none is owed
-  pub back_end : leb back 3 && leb back room ≡ false → room ≡ last_start room xs
+  pub back_end : min room 3 < back → room ≡ last_start room xs
   unfolding owed
-  back_end e = start_there xs room inside (omega (arith, p.owes, go (leb back 3) refl (leb back room) refl e))
+  back_end h = start_there xs room inside (omega (arith, p.owes, go (leb back 3) refl))
     where
-      go : (t : Bool) → leb back 3 ≡ t → (u : Bool) → leb back room ≡ u → t && u ≡ false → owed 0 (take (room + 1 - back) xs) ≤ back - 1
-      go true r true s e = let z : ◌≡◌ {A = ℕ} 0 1 = cc in omega arith
-      go true r false s e = let z : room + 1 - back ≡ 0 = omega (arith, leb-false back room s) in rw z (omega arith)
-      go false r u s e = omega (arith, owed_few 0 (take (room + 1 - back) xs) (omega arith), leb-false back 3 r)
+      go : (t : Bool) → leb back 3 ≡ t → owed 0 (take (room + 1 - back) xs) ≤ back - 1
+      go true e = let z : room + 1 - back ≡ 0 = omega (arith, leb-true back 3 e) in rw z (omega arith)
+      go false e = omega (arith, owed_few 0 (take (room + 1 - back) xs) (omega arith), leb-false back 3 e)
 
   module _ (h : back ≤ room) where
     here : room + 1 - back ≡ room - back + 1

@@ -2,7 +2,7 @@
 use mathlib.Core.Path.{◌≡◌, refl, sym, ap, ◌∙◌}
 use mathlib.Core.Bool.{Bool, true, false, not, ◌&&◌, ◌||◌, and_assoc, or-false, or-true, false≢true}
 use mathlib.Core.List.{List, [], ◌∷◌}
-use Prim.Native.Nat.{ℕ, zero, suc, ◌+◌, ◌≤◌, ◌<◌}
+use Prim.Native.Nat.{ℕ, zero, suc, ◌+◌, ◌-◌, ◌≤◌, ◌<◌}
 use native.Mathlib.Numerals.{add-one}
 use native.Mathlib.Omega.{arith}
 use lib.ListN.{length, get_or, drop, drop_of_length-le}
@@ -20,7 +20,7 @@ use Rattle.characters.specs.Grammar.{Utf8, no_octet, a_char}
 use Rattle.characters.specs.Quick.{shown, asked, begins, barred, beside, looked, common_text}
 use Rattle.characters.proofs.Utf8.{utf8_exactly}
 
--- ---- the loop, which has tried the bytes before the place i + 2
+-- ---- the loop, which has tried the bytes before the place i
 
 -- one byte: it is tried, and so are those behind it
 looked_turn : (b c : ℕ) (xs : List ℕ) (i : ℕ) → i < length xs
@@ -29,33 +29,37 @@ unfolding looked
 looked_turn b c xs i h = rw (drop-cons xs i 0 h, add-one)
 
 pub record Looks (xs : List ℕ) (fine : Bool) (i : ℕ) : Type 0 where
-  pub inside : i + 2 ≤ length xs
-  pub left : fine && looked (get_or xs i 0) (get_or xs (i + 1) 0) (drop (i + 2) xs) ≡ looked 0 0 xs
+  pub inside : i ≤ length xs
+  pub some : 2 ≤ i
+  pub left : fine && looked (get_or xs (i - 2) 0) (get_or xs (i - 1) 0) (drop i xs) ≡ common_text xs
 
-pub looks_start : (xs : List ℕ) → 2 ≤ length xs → Looks xs (beside 0 0 (get_or xs 0 0) && beside 0 (get_or xs 0 0) (get_or xs 1 0)) 0
+pub looks_start : (xs : List ℕ) → 2 ≤ length xs → Looks xs (beside 0 0 (get_or xs 0 0) && beside 0 (get_or xs 0 0) (get_or xs 1 0)) 2
 looks_start xs h = record {
-  inside = omega arith;
+  inside = h;
+  some = omega arith;
   left =
-      and_assoc (beside 0 0 (get_or xs 0 0)) (beside 0 (get_or xs 0 0) (get_or xs 1 0)) (looked (get_or xs 0 0) (get_or xs 1 0) (drop 2 xs))
-      ∙ sym (looked_turn 0 0 xs 0 (omega arith) ∙ ap (λ (t : Bool). beside 0 0 (get_or xs 0 0) && t) (looked_turn 0 (get_or xs 0 0) xs 1 (omega arith)));
+      rw (le-leb 2 (length xs) h)
+      (and_assoc (beside 0 0 (get_or xs 0 0)) (beside 0 (get_or xs 0 0) (get_or xs 1 0)) (looked (get_or xs 0 0) (get_or xs 1 0) (drop 2 xs))
+      ∙ sym (looked_turn 0 0 xs 0 (omega arith) ∙ ap (λ (t : Bool). beside 0 0 (get_or xs 0 0) && t) (looked_turn 0 (get_or xs 0 0) xs 1 (omega arith))));
 }
 
 module _ {xs : List ℕ} {fine : Bool} {i : ℕ} (l : Looks xs fine i) where
-  pub looks_more : i + 2 < length xs → Looks xs (fine && beside (get_or xs i 0) (get_or xs (i + 1) 0) (get_or xs (i + 2) 0)) (i + 1)
+  pub looks_more : i < length xs → Looks xs (fine && beside (get_or xs (i - 2) 0) (get_or xs (i - 1) 0) (get_or xs i 0)) (i + 1)
   looks_more h =
-      let b = get_or xs i 0 in
-      let c = get_or xs (i + 1) 0 in
-      let x = get_or xs (i + 2) 0 in
-      let second : i + 1 + 1 ≡ i + 2 = omega arith in
-      let third : i + 1 + 2 ≡ i + 2 + 1 = omega arith in
+      let b = get_or xs (i - 2) 0 in
+      let c = get_or xs (i - 1) 0 in
+      let x = get_or xs i 0 in
+      let first : i + 1 - 2 ≡ i - 1 = omega (arith, l.some) in
+      let second : i + 1 - 1 ≡ i = omega arith in
       record {
         inside = omega arith;
-        left = rw (second, third) (and_assoc fine (beside b c x) (looked c x (drop (i + 2 + 1) xs)) ∙ (ap (λ (t : Bool). fine && t) (sym (looked_turn b c xs (i + 2) h)) ∙ l.left));
+        some = omega (arith, l.some);
+        left = rw (first, second) (and_assoc fine (beside b c x) (looked c x (drop (i + 1) xs)) ∙ (ap (λ (t : Bool). fine && t) (sym (looked_turn b c xs i h)) ∙ l.left));
       }
 
-  pub looks_all : length xs ≤ i + 2 → fine && not (asked (get_or xs i 0) (get_or xs (i + 1) 0)) ≡ common_text xs
+  pub looks_all : length xs ≤ i → fine && not (asked (get_or xs (length xs - 2) 0) (get_or xs (length xs - 1) 0)) ≡ common_text xs
   unfolding looked
-  looks_all h = rw (le-leb 2 (length xs) (omega (arith, l.inside))) (rw (drop_of_length-le xs h) at l.left)
+  looks_all h = let e : i ≡ length xs = omega (arith, l.inside) in rw e at (rw (drop_of_length-le xs h) at l.left)
 
 -- ---- a byte that passes
 

@@ -4,12 +4,12 @@ use mathlib.Core.Bool.{Bool, true, false, ◌&&◌, and_assoc}
 use mathlib.Core.Logic.{◌↔◌}
 use mathlib.Core.List.{List, [], ◌∷◌, ◌++◌, map, append_assoc}
 use Prim.Native.Nat.{ℕ, suc, ◌+◌, ◌≤◌, ◌<◌}
-use native.Mathlib.Nat.{not-suc-le-zero}
 use native.Mathlib.Omega.{arith}
-use lib.ListN.{length, take, drop, get_or, length-take, length-drop, take-append-drop, drop_of_length-le, length-append}
+use lib.ListN.{length, take, drop, get_or, length-take, length-drop, take-append-drop, length-append}
 use lib.Seq.{take-append_seam, drop-append_seam, take-add, drop-drop}
 use lib.Dec.{leb, eqb, leb-suc-zero}
 use borrow.Author.Tests.{le-leb, lt-leb, leb-true, leb-false, eqb-true}
+use Rattle.std.specs.Prelude.{Option, Some, None}
 use Rattle.octets.specs.Choice.{pick}
 use Rattle.octets.specs.Bytes.{between, ascii}
 use Rattle.octets.specs.Runs.{run, only}
@@ -17,7 +17,7 @@ use Rattle.octets.specs.All.{All}
 use Rattle.octets.proofs.Bools.{both, either}
 use Rattle.octets.proofs.Runs.{within, through, whole_head, whole_tail, all_of}
 use Rattle.characters.specs.Units.{tail, wanted, tails, units}
-use Rattle.characters.specs.Utf8.{utf8_two, utf8_three, utf8_four, utf8_char, sound_len, utf8_run, is_utf8, char_front, char_len}
+use Rattle.characters.specs.Utf8.{utf8_three, utf8_four, utf8_char, sound_len, utf8_run, is_utf8, char_front, char_at}
 use Rattle.characters.specs.Grammar.{Utf8, no_octet, a_char, IllFormedAt}
 use Rattle.characters.proofs.Units.{units_none, units_front, by_units, unit_length, ascii_alone}
 
@@ -103,56 +103,15 @@ lead_full x xs n h e =
     (omega (arith, s.0), omega (arith, s.0))
 
 -- the bytes that the first asks for are a character just if the first unit is one
-pub by_lead : (x : ℕ) (xs : List ℕ) → pick (utf8_char (x ∷ take (tails x xs) xs)) (suc (tails x xs)) 0 ≡ char_len (x ∷ xs)
+by_lead : (x : ℕ) (xs : List ℕ) → pick (utf8_char (x ∷ take (tails x xs) xs)) (Some (suc (tails x xs))) None ≡ char_at (x ∷ xs)
 by_lead x xs = go (utf8_char (x ∷ take (tails x xs) xs)) refl (utf8_char (char_front (x ∷ xs))) refl
   where
     go : (t : Bool) → utf8_char (x ∷ take (tails x xs) xs) ≡ t → (u : Bool) → utf8_char (char_front (x ∷ xs)) ≡ u
-        → pick t (suc (tails x xs)) 0 ≡ pick u (length (char_front (x ∷ xs))) 0
-    go true e true f = sym (unit_length x xs) ∙ rw (lead_full x xs (tails x xs) (omega arith) e).0
+        → pick t (Some (suc (tails x xs))) None ≡ pick u (Some (length (char_front (x ∷ xs)))) None
+    go true e true f = ap (λ (n : ℕ). Some n) (sym (unit_length x xs)) ∙ rw (lead_full x xs (tails x xs) (omega arith) e).0
     go true e false f = absurd (let n = (lead_full x xs (tails x xs) (omega arith) e).0 in let z : ◌≡◌ {A = ℕ} 0 1 = cc in omega arith)
     go false e true f = absurd (let n = (lead_full x xs (wanted x) (omega arith) f).1 in let z : ◌≡◌ {A = ℕ} 0 1 = cc in omega arith)
     go false e false f = refl
-
--- and what the code finds there: a byte of ASCII, a byte that begins none, one with too few behind it, or the tests of two, three and four
-pub len_ascii : (xs : List ℕ) → 0 < length xs → get_or xs 0 0 ≤ 127 → 1 ≡ char_len xs
-len_ascii [] h l = absurd (not-suc-le-zero h)
-len_ascii (x ∷ xs) h l = let e = le-leb x 127 l in rw ((ascii_alone x e).1, e)
-
-pub len_none : (xs : List ℕ) → 0 < length xs → 127 < get_or xs 0 0 → wanted (get_or xs 0 0) ≡ 0 → 0 ≡ char_len xs
-len_none [] h l w = absurd (not-suc-le-zero h)
-len_none (x ∷ xs) h l w = rw (w, lt-leb x 127 l)
-
-pub len_cut : (xs : List ℕ) → 0 < length xs → length xs ≤ wanted (get_or xs 0 0) → 0 ≡ char_len xs
-len_cut [] h l = absurd (not-suc-le-zero h)
-len_cut (x ∷ xs) h l = go (utf8_char (x ∷ take (wanted x) xs)) refl
-  where
-    go : (t : Bool) → utf8_char (x ∷ take (wanted x) xs) ≡ t → 0 ≡ pick t (suc (length (take (wanted x) xs))) 0
-    go true e = absurd (omega (arith, (char_shape x (take (wanted x) xs) e).0, length-take (wanted x) xs))
-    go false e = refl
-
-pub len_tested : (xs : List ℕ) (fine : Bool) → wanted (get_or xs 0 0) < length xs → fine ≡ utf8_char (char_front xs) → pick fine (wanted (get_or xs 0 0) + 1) 0 ≡ char_len xs
-len_tested xs fine h e =
-    let l : wanted (get_or xs 0 0) + 1 ≡ length (char_front xs) = omega (arith, length-take (suc (wanted (get_or xs 0 0))) xs) in
-    rw (e, l)
-
-pub as_two : (xs : List ℕ) → wanted (get_or xs 0 0) ≡ 1 → 1 < length xs → utf8_two (get_or xs 0 0) (get_or xs 1 0) ≡ utf8_char (char_front xs)
-as_two [] w h = absurd (omega arith)
-as_two (a ∷ []) w h = absurd (omega arith)
-as_two (a ∷ b ∷ xs) w h = rw w
-
-pub as_three : (xs : List ℕ) → wanted (get_or xs 0 0) ≡ 2 → 2 < length xs → utf8_three (get_or xs 0 0) (get_or xs 1 0) (get_or xs 2 0) ≡ utf8_char (char_front xs)
-as_three [] w h = absurd (omega arith)
-as_three (a ∷ []) w h = absurd (omega arith)
-as_three (a ∷ b ∷ []) w h = absurd (omega arith)
-as_three (a ∷ b ∷ c ∷ xs) w h = rw w
-
-pub as_four : (xs : List ℕ) → wanted (get_or xs 0 0) ≡ 3 → 3 < length xs
-    → utf8_four (get_or xs 0 0) (get_or xs 1 0) (get_or xs 2 0) (get_or xs 3 0) ≡ utf8_char (char_front xs)
-as_four [] w h = absurd (omega arith)
-as_four (a ∷ []) w h = absurd (omega arith)
-as_four (a ∷ b ∷ []) w h = absurd (omega arith)
-as_four (a ∷ b ∷ c ∷ []) w h = absurd (omega arith)
-as_four (a ∷ b ∷ c ∷ d ∷ xs) w h = rw w
 
 -- ---- one unit at a time
 
@@ -161,56 +120,26 @@ run_front : (x : ℕ) (xs : List ℕ) → utf8_run (x ∷ xs) ≡ pick (utf8_cha
 unfolding sound_len
 run_front x xs = rw (units_front x xs, unit_length x xs)
 
--- it ends within the bytes
-pub len_within : (xs : List ℕ) → char_len xs ≤ length xs
-len_within xs = go (utf8_char (char_front xs))
-  where
-    go : (t : Bool) → pick t (length (char_front xs)) 0 ≤ length xs
-    go true = omega (arith, length-take (suc (wanted (get_or xs 0 0))) xs)
-    go false = omega arith
-
 -- no character at the front: the run ends there
-pub run_end : (xs : List ℕ) → char_len xs ≡ 0 → utf8_run xs ≡ 0
+pub run_end : (xs : List ℕ) → char_at xs ≡ None → utf8_run xs ≡ 0
 unfolding sound_len
 run_end [] h = rw units_none
 run_end (x ∷ xs) h = run_front x xs ∙ go (utf8_char (x ∷ take (tails x xs) xs)) (by_lead x xs)
   where
-    go : (t : Bool) → pick t (suc (tails x xs)) 0 ≡ char_len (x ∷ xs) → pick t (suc (tails x xs) + utf8_run (drop (tails x xs) xs)) 0 ≡ 0
-    go true e = absurd (omega (arith, e, h))
+    go : (t : Bool) → pick t (Some (suc (tails x xs))) None ≡ char_at (x ∷ xs) → pick t (suc (tails x xs) + utf8_run (drop (tails x xs) xs)) 0 ≡ 0
+    go true e = cc
     go false e = refl
 
--- a character at the front: the run goes on behind it
-pub run_more : (xs : List ℕ) → 0 < char_len xs → utf8_run xs ≡ char_len xs + utf8_run (drop (char_len xs) xs)
-run_more [] h = absurd (omega arith)
-run_more (x ∷ xs) h = run_front x xs ∙ go (utf8_char (x ∷ take (tails x xs) xs)) (by_lead x xs)
+-- a character at the front: it has a byte at least and ends within the bytes, and the run goes on behind it
+pub run_more : (xs : List ℕ) (n : ℕ) → Some n ≡ char_at xs → (0 < n) × (n ≤ length xs) × (utf8_run xs ≡ n + utf8_run (drop n xs))
+run_more [] n h = let z : ◌≡◌ {A = Option ℕ} (Some n) None = h in cc
+run_more (x ∷ xs) n h = go (utf8_char (x ∷ take (tails x xs) xs)) (by_lead x xs) (run_front x xs)
   where
-    go : (t : Bool) → pick t (suc (tails x xs)) 0 ≡ char_len (x ∷ xs)
-        → pick t (suc (tails x xs) + utf8_run (drop (tails x xs) xs)) 0 ≡ char_len (x ∷ xs) + utf8_run (drop (char_len (x ∷ xs)) (x ∷ xs))
-    go true e = ap (λ (n : ℕ). n + utf8_run (drop n (x ∷ xs))) e
-    go false e = absurd (omega (arith, e, h))
-
--- ---- the loop for the run, which has passed i bytes of characters
-
-pub record Passed (xs : List ℕ) (i : ℕ) : Type 0 where
-  pub inside : i ≤ length xs
-  pub left : i + utf8_run (drop i xs) ≡ utf8_run xs
-
-pub passed_start : (xs : List ℕ) → Passed xs 0
-passed_start xs = record { inside = omega arith; left = omega arith }
-
-module _ {xs : List ℕ} {i : ℕ} (p : Passed xs i) where
-  pub passed_end : char_len (drop i xs) ≡ 0 → i ≡ utf8_run xs
-  passed_end h = omega (arith, p.left, run_end (drop i xs) h)
-
-  pub passed_more : (n : ℕ) → n ≡ char_len (drop i xs) → 0 < n → Passed xs (i + n)
-  passed_more n e h =
-      let w = len_within (drop i xs) in
-      let l = length-drop i xs in
-      let r : utf8_run (drop i xs) ≡ n + utf8_run (drop n (drop i xs)) = rw e (run_more (drop i xs) (omega arith)) in
-      record { inside = omega arith; left = rw (← drop-drop n i xs) (omega arith) }
-
-  pub passed_all : length xs ≤ i → i ≡ utf8_run xs
-  passed_all h = passed_end (rw (drop_of_length-le xs h) refl)
+    go : (t : Bool) → pick t (Some (suc (tails x xs))) None ≡ char_at (x ∷ xs)
+        → utf8_run (x ∷ xs) ≡ pick t (suc (tails x xs) + utf8_run (drop (tails x xs) xs)) 0
+        → (0 < n) × (n ≤ suc (length xs)) × (utf8_run (x ∷ xs) ≡ n + utf8_run (drop n (x ∷ xs)))
+    go true e r = let z : n ≡ suc (tails x xs) = cc in (omega arith, omega (arith, within tail xs), r ∙ rw z)
+    go false e r = let z : ◌≡◌ {A = Option ℕ} (Some n) None = cc in cc
 
 -- ---- a whole text
 
@@ -327,7 +256,7 @@ passed_before (a_char u {rest} e g) more =
 none_there : (xs : List ℕ) → ((u rest : List ℕ) → utf8_char u ≡ true → xs ≡ u ++ rest → ⊥) → utf8_run xs ≡ 0
 none_there xs none = run_end xs (go (utf8_char (char_front xs)) refl)
   where
-    go : (t : Bool) → utf8_char (char_front xs) ≡ t → pick t (length (char_front xs)) 0 ≡ 0
+    go : (t : Bool) → utf8_char (char_front xs) ≡ t → pick t (Some (length (char_front xs))) None ≡ None
     go true e = absurd (none (char_front xs) (drop (suc (wanted (get_or xs 0 0))) xs) e (sym (take-append-drop (suc (wanted (get_or xs 0 0))) xs)))
     go false e = refl
 

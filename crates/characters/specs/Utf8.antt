@@ -1,6 +1,6 @@
 -- Which characters are well formed, and where a text has the first that is not (RFC 3629, section 4; document 02, request 4).
 -- Assumes nothing.
-use Rattle.std.specs.Prelude.{ℕ, suc, ◌+◌, Bool, false, ◌&&◌, ◌||◌, List, [], ◌∷◌, length, take, get_or, eqb, leb}
+use Rattle.std.specs.Prelude.{ℕ, suc, ◌+◌, Bool, false, ◌&&◌, ◌||◌, Option, Some, None, List, [], ◌∷◌, length, take, get_or, eqb, leb}
 use Rattle.octets.specs.Choice.{pick}
 use Rattle.octets.specs.Bytes.{between, ascii}
 use Rattle.characters.specs.Units.{tail, wanted, units}
@@ -46,5 +46,5 @@ is_utf8 xs = leb (length xs) (utf8_run xs)
 abbrev pub char_front : List ℕ → List ℕ
 char_front xs = take (suc (wanted (get_or xs 0 0))) xs
 
-abbrev pub char_len : List ℕ → ℕ
-char_len xs = pick (utf8_char (char_front xs)) (length (char_front xs)) 0
+abbrev pub char_at : List ℕ → Option ℕ
+char_at xs = pick (utf8_char (char_front xs)) (Some (length (char_front xs))) None

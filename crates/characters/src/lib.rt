@@ -3,25 +3,24 @@
 
 ghost use Rattle.std.specs.Prelude.{◌≡◌, ◌&&◌, ◌+◌, ◌<◌, ◌≤◌, length, get_or};
 ghost use Rattle.characters.specs.Units.{tail, wanted, last_start};
-ghost use Rattle.characters.specs.Utf8.{utf8_two, utf8_three, utf8_four, utf8_run, char_len};
+ghost use Rattle.characters.specs.Utf8.{utf8_run, char_at};
 ghost use Rattle.characters.specs.Quick.{asked, barred, beside, common_text};
 
 // Whether a byte is one of those behind the first of a character.
 fn is_tail(b: u8) -> bool
     ensures { result ≡ tail b }
 {
-    (128 <= b) & (b <= 191)
+    matches!(b, 0x80..=0xbf)
 }
 
 // How many tails a first byte asks for, by its leading ones: the leading zeros of its complement.
 fn tails_wanted(b: u8) -> usize
     ensures { result ≡ wanted b }
 {
-    let ones = u8::leading_zeros(!b) as usize;
-    if (2 <= ones) & (ones <= 4) {
-        return ones - 1;
+    match (!b).leading_zeros() {
+        ones @ 2..=4 => ones as usize - 1,
+        _ => 0,
     }
-    0
 }
 
 // The last start of a character within so many bytes: there, or at the first byte of the character that a cut there would divide.
@@ -32,90 +31,48 @@ pub fn start_within(rest: &[u8], room: usize) -> usize
     if !is_tail(rest[room]) {
         return room;
     }
-    let mut back: usize = 1;
-    while (back <= 3) & (back <= room) {
+    for back in 1..=room.min(3) {
         let b = rest[room - back];
         if !is_tail(b) {
-            if back <= tails_wanted(b) {
-                return room - back;
-            }
-            return room;
+            return if back <= tails_wanted(b) {
+                room - back
+            } else {
+                room
+            };
         }
-        back += 1;
     }
     room
 }
 
-// Whether two bytes are a character.
-fn is_two(a: u8, b: u8) -> bool
-    ensures { result ≡ utf8_two a b }
+// How many bytes the character at the front has: none, where it is ill-formed or cut off. Most have one, which is looked at first.
+fn character_len(rest: &[u8]) -> Option<usize>
+    ensures { result ≡ char_at rest.now }
 {
-    ((194 <= a) & (a <= 223)) & is_tail(b)
-}
-
-// Whether three are: no longer form than is needed, and no surrogate.
-fn is_three(a: u8, b: u8, c: u8) -> bool
-    ensures { result ≡ utf8_three a b c }
-{
-    let shortest = (a == 224) & (((160 <= b) & (b <= 191)) & is_tail(c));
-    let lower = ((225 <= a) & (a <= 236)) & (is_tail(b) & is_tail(c));
-    let before_surrogates = (a == 237) & (((128 <= b) & (b <= 159)) & is_tail(c));
-    let upper = ((238 <= a) & (a <= 239)) & (is_tail(b) & is_tail(c));
-    shortest | (lower | (before_surrogates | upper))
-}
-
-// Whether four are: no longer form than is needed, and none above U+10FFFF.
-fn is_four(a: u8, b: u8, c: u8, d: u8) -> bool
-    ensures { result ≡ utf8_four a b c d }
-{
-    let shortest = (a == 240) & (((144 <= b) & (b <= 191)) & (is_tail(c) & is_tail(d)));
-    let middle = ((241 <= a) & (a <= 243)) & (is_tail(b) & (is_tail(c) & is_tail(d)));
-    let last = (a == 244) & (((128 <= b) & (b <= 143)) & (is_tail(c) & is_tail(d)));
-    shortest | (middle | last)
-}
-
-// How many bytes the character at the front has, as its first byte says; 0 if it is ill-formed or cut off.
-fn character_len(rest: &[u8]) -> usize
-    requires { 0 < length rest.now }
-    ensures { result ≡ char_len rest.now }
-{
-    let a = rest[0];
-    if a <= 127 {
-        return 1;
+    if let [0x00..=0x7f, ..] = rest {
+        return Some(1);
     }
-    let more = tails_wanted(a);
-    if rest.len() <= more {
-        return 0;
+    match rest {
+        [0xc2..=0xdf, 0x80..=0xbf, ..] => Some(2),
+        [0xe0, 0xa0..=0xbf, 0x80..=0xbf, ..]
+        | [0xe1..=0xec, 0x80..=0xbf, 0x80..=0xbf, ..]
+        | [0xed, 0x80..=0x9f, 0x80..=0xbf, ..]
+        | [0xee..=0xef, 0x80..=0xbf, 0x80..=0xbf, ..] => Some(3),
+        [0xf0, 0x90..=0xbf, 0x80..=0xbf, 0x80..=0xbf, ..]
+        | [0xf1..=0xf3, 0x80..=0xbf, 0x80..=0xbf, 0x80..=0xbf, ..]
+        | [0xf4, 0x80..=0x8f, 0x80..=0xbf, 0x80..=0xbf, ..] => Some(4),
+        _ => None,
     }
-    if more == 0 {
-        return 0;
-    }
-    let fine = if more == 1 {
-        is_two(a, rest[1])
-    } else if more == 2 {
-        is_three(a, rest[1], rest[2])
-    } else {
-        is_four(a, rest[1], rest[2], rest[3])
-    };
-    if fine {
-        return more + 1;
-    }
-    0
 }
 
 // Where the first ill-formed character begins, or the end.
 pub fn utf8_run(line: &[u8]) -> usize
     ensures { result ≡ utf8_run line.now }
 {
-    let mut i: usize = 0;
-    while i < line.len() {
-        let n = character_len(&line[i..]);
-        if n == 0 {
-            return i;
-        }
-        i += n;
+    let mut rest = line;
+    while let Some(n) = character_len(rest) {
+        rest = &rest[n..];
     }
-    i
+    line.len() - rest.len()
 }
 
 // Whether a byte has to be a tail, behind c and before that b.
@@ -137,40 +94,21 @@ fn is_beside(b: u8, c: u8, x: u8) -> bool
     ensures { result ≡ beside b c x }
 {
     let asked = is_asked(b, c);
-    let begins = ((32 <= x) & (x <= 127)) | ((194 <= x) & (x <= 239));
-    ((asked & is_tail(x)) | (!asked & begins)) & !(c == barred_before(x))
-}
-
-// Whether the first two bytes may begin such a text.
-fn front_fits(line: &[u8]) -> bool
-    requires { 2 ≤ length line.now }
-    ensures { result ≡ beside 0 0 (get_or line.now 0 0) && beside 0 (get_or line.now 0 0) (get_or line.now 1 0) }
-{
-    let first = line[0];
-    is_beside(0, 0, first) & is_beside(0, first, line[1])
-}
-
-// Whether the third byte from `at` on may stand behind the two before it.
-fn third_fits(line: &[u8], at: usize) -> bool
-    requires { at + 2 < length line.now }
-    ensures { result ≡ beside (get_or line.now at 0) (get_or line.now (at + 1) 0) (get_or line.now (at + 2) 0) }
-{
-    is_beside(line[at], line[at + 1], line[at + 2])
+    let begins = matches!(x, 32..=127) | matches!(x, 194..=239);
+    ((asked & is_tail(x)) | (!asked & begins)) & (c != barred_before(x))
 }
 
 // Whether a text is seen at a look to be UTF-8 without control bytes, as most are. The loop has no branch, so that it becomes vector code.
 pub fn is_common_text(line: &[u8]) -> bool
     ensures { result ≡ common_text line.now }
 {
-    if line.len() < 2 {
+    let [first, second, ..] = line else {
         return false;
+    };
+    let mut fine = is_beside(0, 0, *first) & is_beside(0, *first, *second);
+    for i in 2..line.len() {
+        fine &= is_beside(line[i - 2], line[i - 1], line[i]);
     }
-    let last = line.len() - 2;
-    let mut fine = front_fits(line);
-    let mut i: usize = 0;
-    while i < last {
-        fine = fine & third_fits(line, i);
-        i += 1;
-    }
-    fine & !is_asked(line[i], line[i + 1])
+    let last = line.len() - 1;
+    fine & !is_asked(line[last - 1], line[last])
 }

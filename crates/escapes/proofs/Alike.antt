@@ -1,133 +1,90 @@
 -- Two values read side by side, a byte of their texts at a time, and what that tells of values alike as texts. Assumes nothing.
 use mathlib.Core.Path.{◌≡◌, refl, sym, ap, ◌∙◌}
-use mathlib.Core.Bool.{Bool, true, false, not, ◌&&◌, ◌||◌}
-use mathlib.Core.List.{List, []}
-use Prim.Native.Nat.{ℕ, ◌+◌, ◌≤◌, ◌<◌, zero-le}
+use mathlib.Core.Bool.{Bool, true, false, ◌&&◌, ◌||◌}
+use mathlib.Core.List.{List, [], ◌∷◌}
+use Prim.Native.Nat.{ℕ, suc, ◌<◌}
 use native.Mathlib.Omega.{arith}
-use lib.ListN.{length, drop, drop_of_length-le, length-drop}
-use lib.Seq.{drop-drop}
+use lib.ListN.{length}
 use lib.Dec.{eqb, leb, ltb}
-use borrow.Author.Tests.{eqb-true, eqb-false, le-leb, ltb-true, ltb-false, lt-leb}
+use borrow.Author.Tests.{eq-eqb, ne_eqb, le-leb, leb-true, leb-false, ltb-true, ltb-false, lt-leb}
 use Rattle.octets.specs.Choice.{pick}
 use Rattle.octets.specs.Answers.{longest}
 use Rattle.octets.specs.Words.{same_bytes}
 use Rattle.octets.proofs.Words.{unlike, same_eq, same_refl}
 use Rattle.escapes.specs.Text.{fine, escapes_fine, text_of}
 use Rattle.escapes.specs.Loose.{strictly_read, same_text}
-use Rattle.escapes.specs.Turns.{Turns, read_alike}
+use Rattle.escapes.specs.Turns.{Unit, read_alike}
 use Rattle.escapes.specs.declared.Mode.{Mode}
-use Rattle.escapes.specs.declared.Unit.{Unit}
-use Rattle.escapes.proofs.Reading.{text_last, some_text}
+use Rattle.escapes.proofs.Reading.{some_text}
 
 -- ---- one byte of each text
 
-module _ {mode : Mode} {v w : List ℕ} {p q : Unit} (one : Turns mode v p) (other : Turns mode w q) where
-  -- bytes that agree or not, and then the rest
-  turn : 0 < p.used → 0 < q.used → read_alike mode v w ≡ eqb p.byte q.byte && read_alike mode (drop p.used v) (drop q.used w)
-  unfolding same_bytes
-  turn h k =
-      rw (one.onward h, other.onward k, one.byte h, other.byte k)
-      (swap (escapes_fine mode (drop p.used v) && escapes_fine mode (drop q.used w)) (eqb p.byte q.byte) (same_bytes (text_of (drop p.used v)) (text_of (drop q.used w))))
-    where
-      swap : (a b c : Bool) → a && (b && c) ≡ b && (a && c)
-      swap true b c = refl
-      swap false true c = refl
-      swap false false c = refl
+-- a value is fine if the rest of it is
+fine_on : {mode : Mode} {value rest : List ℕ} {byte : ℕ} → Unit mode value byte rest → escapes_fine mode value ≡ escapes_fine mode rest
+fine_on {mode} {value} {rest} u = go (leb (length rest) (fine mode rest)) refl
+  where
+    go : (t : Bool) → leb (length rest) (fine mode rest) ≡ t → leb (length value) (fine mode value) ≡ t
+    go true t = le-leb (length value) (fine mode value) (omega (arith, u.onward, leb-true (length rest) (fine mode rest) t))
+    go false t = lt-leb (length value) (fine mode value) (omega (arith, u.onward, leb-false (length rest) (fine mode rest) t))
 
-  -- the test of the loop: either value is refused, or the bytes differ
-  abbrev stop : Bool
-  stop = eqb p.used 0 || (eqb q.used 0 || not (eqb p.byte q.byte))
+-- bytes that agree or not, and then the rest
+pair_turn : {mode : Mode} {v w more others : List ℕ} {x y : ℕ} → Unit mode v x more → Unit mode w y others
+    → read_alike mode v w ≡ eqb x y && read_alike mode more others
+unfolding same_bytes
+pair_turn {mode} {v} {w} {more} {others} {x} {y} one other =
+    rw (fine_on one, fine_on other, one.text, other.text)
+    (swap (escapes_fine mode more && escapes_fine mode others) (eqb x y) (same_bytes (text_of more) (text_of others)))
+  where
+    swap : (a b c : Bool) → a && (b && c) ≡ b && (a && c)
+    swap true b c = refl
+    swap false true c = refl
+    swap false false c = refl
 
-  pub stops : stop ≡ true → false ≡ read_alike mode v w
-  stops e = sym (go (eqb p.used 0) refl (eqb q.used 0) refl (eqb p.byte q.byte) refl e)
-    where
-      none : (a : Bool) {b : Bool} (c : Bool) → b ≡ false → (a && b) && c ≡ false
-      none true c e = rw e
-      none false c e = refl
+module _ {mode : Mode} {v w more others : List ℕ} {x y : ℕ} {t : Bool} (s : read_alike mode v w ≡ t)
+    (one : Unit mode v x more) (other : Unit mode w y others) where
+  pub pair_differs : (x ≡ y → ⊥) → false ≡ t
+  pair_differs h = sym (rw (ne_eqb x y h) at (pair_turn one other)) ∙ s
 
-      go : (a : Bool) → eqb p.used 0 ≡ a → (b : Bool) → eqb q.used 0 ≡ b → (c : Bool) → eqb p.byte q.byte ≡ c → a || (b || not c) ≡ true
-          → read_alike mode v w ≡ false
-      go true a b e c f g = rw (one.bad (eqb-true p.used 0 a))
-      go false a true e c f g = none (escapes_fine mode v) (same_bytes (text_of v) (text_of w)) (other.bad (eqb-true q.used 0 e))
-      go false a false e true f g = absurd (let z : ◌≡◌ {A = ℕ} 0 1 = cc in omega arith)
-      go false a false e false f g = turn (some p.used (eqb-false p.used 0 a)) (some q.used (eqb-false q.used 0 e)) ∙ rw f
-        where
-          some : (n : ℕ) → (n ≡ 0 → ⊥) → 0 < n
-          some n h = omega arith
+  pub pair_more : x ≡ y → read_alike mode more others ≡ t
+  pair_more h = sym (rw (eq-eqb x y h) at (pair_turn one other)) ∙ s
 
-  pub goes : stop ≡ false → (0 < p.used) × (0 < q.used) × (read_alike mode (drop p.used v) (drop q.used w) ≡ read_alike mode v w)
-  goes e = go (eqb p.used 0) refl (eqb q.used 0) refl (eqb p.byte q.byte) refl e
-    where
-      some : (n : ℕ) → eqb n 0 ≡ false → 0 < n
-      some n h = let k = eqb-false n 0 h in omega arith
+-- ---- no byte of one of them: at its end, or at a backslash that begins no escape
 
-      go : (a : Bool) → eqb p.used 0 ≡ a → (b : Bool) → eqb q.used 0 ≡ b → (c : Bool) → eqb p.byte q.byte ≡ c → a || (b || not c) ≡ false
-          → (0 < p.used) × (0 < q.used) × (read_alike mode (drop p.used v) (drop q.used w) ≡ read_alike mode v w)
-      go true a b e c f g = absurd (let z : ◌≡◌ {A = ℕ} 0 1 = cc in omega arith)
-      go false a true e c f g = absurd (let z : ◌≡◌ {A = ℕ} 0 1 = cc in omega arith)
-      go false a false e false f g = absurd (let z : ◌≡◌ {A = ℕ} 0 1 = cc in omega arith)
-      go false a false e true f g = let h = some p.used a in let k = some q.used e in (h, k, sym (turn h k ∙ rw f))
-
--- ---- the loop: i bytes of one value and j bytes of the other are read, and alike
-
-pub record Sided (mode : Mode) (a b : List ℕ) (i j : ℕ) : Type 0 where
-  pub inside_one : i ≤ length a
-  pub inside_other : j ≤ length b
-  pub left : read_alike mode (drop i a) (drop j b) ≡ read_alike mode a b
-
-pub sided_start : (mode : Mode) (a b : List ℕ) → Sided mode a b 0 0
-sided_start mode a b = record { inside_one = omega arith; inside_other = omega arith; left = refl }
+unlike_texts : (t : Bool) (xs ys : List ℕ) → (length xs ≡ length ys → ⊥) → false ≡ t && same_bytes xs ys
+unlike_texts true xs ys h = sym (unlike xs ys h)
+unlike_texts false xs ys h = refl
 
 empty : (mode : Mode) → true ≡ read_alike mode [] []
 unfolding fine text_of same_bytes
 empty mode = refl
 
-module _ {mode : Mode} {a b : List ℕ} {i j : ℕ} (s : Sided mode a b i j) where
-  module _ {p q : Unit} (one : Turns mode (drop i a) p) (other : Turns mode (drop j b) q) where
-    pub sided_stop : stop one other ≡ true → false ≡ read_alike mode a b
-    sided_stop e = stops one other e ∙ s.left
+no_text : length (text_of []) ≡ 0
+unfolding text_of
+no_text = refl
 
-    pub sided_more : stop one other ≡ false → (i < i + p.used) × Sided mode a b (i + p.used) (j + q.used)
-    sided_more e =
-        let g = goes one other e in (
-          omega (arith, g.0),
-          record {
-            inside_one = omega (arith, one.inside, length-drop i a, s.inside_one);
-            inside_other = omega (arith, other.inside, length-drop j b, s.inside_other);
-            left = (rw (drop-drop p.used i a, drop-drop q.used j b) at g.2) ∙ s.left;
-          },
-        )
+stuck : (mode : Mode) (v : List ℕ) → fine mode v ≡ 0 → 0 < length v → escapes_fine mode v ≡ false
+stuck mode v e h = lt-leb (length v) (fine mode v) (omega arith)
 
-  -- one value ends, or both
-  pub sided_end : ltb i (length a) && ltb j (length b) ≡ false → leb (length a) i && leb (length b) j ≡ read_alike mode a b
-  sided_end e = go (ltb i (length a)) refl (ltb j (length b)) refl e ∙ s.left
-    where
-      apart : (t : Bool) (xs ys : List ℕ) → (length (text_of xs) ≡ length (text_of ys) → ⊥) → false ≡ t && same_bytes (text_of xs) (text_of ys)
-      apart true xs ys h = sym (unlike (text_of xs) (text_of ys) h)
-      apart false xs ys h = refl
+pub ends_one : (mode : Mode) (v w : List ℕ) → fine mode v ≡ 0 → eqb (length v) 0 && eqb (length w) 0 ≡ read_alike mode v w
+ends_one mode [] [] e = empty mode
+ends_one mode [] (y ∷ ys) e =
+    ne_eqb (suc (length ys)) 0 (λ h. omega arith) ∙ unlike_texts (escapes_fine mode [] && escapes_fine mode (y ∷ ys)) (text_of []) (text_of (y ∷ ys)) (λ h. omega (arith, h, some_text (y ∷ ys) (omega arith), no_text))
+ends_one mode (x ∷ xs) w e =
+    rw (stuck mode (x ∷ xs) e (omega arith)) (ap (λ (t : Bool). t && eqb (length w) 0) (ne_eqb (suc (length xs)) 0 (λ h. omega arith)))
 
-      none : (xs : List ℕ) (n : ℕ) → length xs ≤ n → length (text_of (drop n xs)) ≡ 0
-      none xs n h = rw (drop_of_length-le xs {i = n} h) (ap length (text_last [] zero-le))
-
-      go : (t : Bool) → ltb i (length a) ≡ t → (u : Bool) → ltb j (length b) ≡ u → t && u ≡ false
-          → leb (length a) i && leb (length b) j ≡ read_alike mode (drop i a) (drop j b)
-      go true e true f g = absurd (let z : ◌≡◌ {A = ℕ} 0 1 = cc in omega arith)
-      go true e false f g =
-          rw (lt-leb (length a) i (ltb-true i (length a) e))
-          (apart (escapes_fine mode (drop i a) && escapes_fine mode (drop j b)) (drop i a) (drop j b)
-          (λ h. omega (arith, h, some_text (drop i a) (omega (arith, length-drop i a, ltb-true i (length a) e)), none b j (ltb-false j (length b) f))))
-      go false e true f g =
-          rw (lt-leb (length b) j (ltb-true j (length b) f), le-leb (length a) i (ltb-false i (length a) e))
-          (apart (escapes_fine mode (drop i a) && escapes_fine mode (drop j b)) (drop i a) (drop j b)
-          (λ h. omega (arith, h, some_text (drop j b) (omega (arith, length-drop j b, ltb-true j (length b) f)), none a i (ltb-false i (length a) e))))
-      go false e false f g =
-          rw (
-            le-leb (length a) i (ltb-false i (length a) e),
-            le-leb (length b) j (ltb-false j (length b) f),
-            drop_of_length-le a {i = i} (ltb-false i (length a) e),
-            drop_of_length-le b {i = j} (ltb-false j (length b) f),
-          )
-          (empty mode)
+pub ends_other : (mode : Mode) (v w : List ℕ) → fine mode w ≡ 0 → eqb (length v) 0 && eqb (length w) 0 ≡ read_alike mode v w
+ends_other mode [] [] e = empty mode
+ends_other mode (x ∷ xs) [] e =
+    ap (λ (t : Bool). t && true) (ne_eqb (suc (length xs)) 0 (λ h. omega arith)) ∙ unlike_texts (escapes_fine mode (x ∷ xs) && escapes_fine mode []) (text_of (x ∷ xs)) (text_of []) (λ h. omega (arith, h, some_text (x ∷ xs) (omega arith), no_text))
+ends_other mode v (y ∷ ys) e =
+    rw (stuck mode (y ∷ ys) e (omega arith))
+    (ap (λ (t : Bool). eqb (length v) 0 && t) (ne_eqb (suc (length ys)) 0 (λ h. omega arith)) ∙ go (eqb (length v) 0) (escapes_fine mode v))
+  where
+    go : (t u : Bool) → t && false ≡ (u && false) && same_bytes (text_of v) (text_of (y ∷ ys))
+    go true true = refl
+    go true false = refl
+    go false true = refl
+    go false false = refl
 
 -- ---- values alike as texts
 

@@ -7,6 +7,7 @@ use native.Mathlib.Omega.{arith}
 use lib.ListN.{length}
 use lib.Dec.{leb}
 use borrow.Author.Tests.{leb-true, le-leb, lt-leb}
+use Rattle.std.specs.Prelude.{Result, Ok, Err}
 use Rattle.octets.specs.Choice.{pick}
 use Rattle.octets.specs.Answers.{longest, done, too_long, no_out_room, bad_escape, output, room_answer}
 use Rattle.octets.specs.declared.Output.{Output}
@@ -14,12 +15,11 @@ use Rattle.escapes.specs.Text.{fine, escapes_fine, text_of}
 use Rattle.escapes.specs.Answers.{text_answer}
 use Rattle.escapes.specs.Turns.{scanned}
 use Rattle.escapes.specs.declared.Mode.{Mode}
-use Rattle.escapes.specs.declared.Scan.{Scan}
 
 -- what a look through finds, as numbers
-abbrev told : Scan → ℕ → Output
-told (Scan.Bad place) room = output bad_escape place 0
-told (Scan.Fine n) room = room_answer n room
+abbrev told : Result ℕ ℕ → ℕ → Output
+told (Err place) room = output bad_escape place 0
+told (Ok n) room = room_answer n room
 
 module _ (mode : Mode) (value : List ℕ) (room : ℕ) where
   pub when_too_long : longest < length value → output too_long 0 0 ≡ text_answer mode value room
@@ -30,32 +30,16 @@ module _ (mode : Mode) (value : List ℕ) (room : ℕ) where
     looked = rw (le-leb (length value) longest h) (go (escapes_fine mode value))
       where
         go : (t : Bool)
-            → told (pick t (Scan.Fine (length (text_of value))) (Scan.Bad (fine mode value))) room
+            → told (pick t (Ok (length (text_of value))) (Err (fine mode value))) room
             ≡ pick t (room_answer (length (text_of value)) room) (output bad_escape (fine mode value) 0)
         go true = refl
         go false = refl
 
-    pub bad : {place : ℕ} → scanned mode value ≡ Scan.Bad place → output bad_escape place 0 ≡ text_answer mode value room
-    bad e = sym (ap (λ (s : Scan). told s room) e) ∙ looked
+    pub bad : {place : ℕ} → Err place ≡ scanned mode value → output bad_escape place 0 ≡ text_answer mode value room
+    bad e = ap (λ (s : Result ℕ ℕ). told s room) e ∙ looked
 
-    pub fits : {n : ℕ} → scanned mode value ≡ Scan.Fine n → room_answer n room ≡ text_answer mode value room
-    fits e = sym (ap (λ (s : Scan). told s room) e) ∙ looked
-
--- a value that is fine tells how long its text is
-pub found_length : (mode : Mode) (value : List ℕ) {n : ℕ} → scanned mode value ≡ Scan.Fine n → n ≡ length (text_of value)
-found_length mode value {n} e = go (escapes_fine mode value) e
-  where
-    length_in : Scan → ℕ
-    length_in (Scan.Bad place) = 0
-    length_in (Scan.Fine n) = n
-
-    tag : Scan → ℕ
-    tag (Scan.Bad place) = 0
-    tag (Scan.Fine n) = 1
-
-    go : (t : Bool) → pick t (Scan.Fine (length (text_of value))) (Scan.Bad (fine mode value)) ≡ Scan.Fine n → n ≡ length (text_of value)
-    go true e = sym (ap length_in e)
-    go false e = absurd (omega (arith, ap tag e))
+    pub fits : {n : ℕ} → Ok n ≡ scanned mode value → room_answer n room ≡ text_answer mode value room
+    fits e = ap (λ (s : Result ℕ ℕ). told s room) e ∙ looked
 
 -- what is told as Done has room
 pub room_there : (n room : ℕ) {r : Output} → r ≡ room_answer n room → r.answer ≡ done → n ≤ room

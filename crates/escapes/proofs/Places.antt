@@ -1,25 +1,26 @@
--- What a loop through a value knows at a place of it: the run up to the next backslash, the escape there, and what is left. Assumes nothing.
+-- What a loop through a value knows: the byte of the text at the front of what is left, and the bytes before. Assumes nothing.
 use mathlib.Core.Path.{◌≡◌, refl, sym, ap, ◌∙◌}
 use mathlib.Core.Bool.{Bool, true, false}
 use mathlib.Core.List.{List, [], ◌∷◌}
-use Prim.Native.Nat.{ℕ, suc, ◌+◌, ◌≤◌, ◌<◌}
+use Prim.Native.Nat.{ℕ, ◌+◌, ◌-◌, ◌≤◌, ◌<◌}
 use native.Mathlib.Nat.{zero-add}
 use native.Mathlib.Numerals.{add-one}
 use native.Mathlib.Omega.{arith}
-use lib.ListN.{length, set, get_or, take, drop, drop_of_length-le, length-append, length-drop, length-set, get_or-eq_default}
-use lib.Seq.{drop-cons, drop-drop, get_or-drop, length-take-le, sets, sets-eq}
+use lib.ListN.{length, set, get_or, take, drop, length-append, length-drop, length-set, get_or-eq_default}
+use lib.Seq.{length-take-le, sets, sets-eq}
 use lib.Dec.{leb}
 use borrow.Author.Tests.{ne_eqb, leb-true, leb-false, le-leb, lt-leb}
+use Rattle.std.specs.Prelude.{Result, Ok, Err}
+use Rattle.octets.specs.Choice.{pick}
 use Rattle.octets.specs.Bytes.{other}
 use Rattle.octets.specs.Laid.{laid}
 use Rattle.octets.specs.Runs.{run}
 use Rattle.octets.proofs.Laid.{whole}
 use Rattle.octets.proofs.Runs.{within}
 use Rattle.escapes.specs.Text.{backslash, escapable, meant, fine, escapes_fine, text_of}
-use Rattle.escapes.specs.Turns.{scanned, Looked, Turns}
+use Rattle.escapes.specs.Turns.{scanned, Unit}
 use Rattle.escapes.specs.declared.Mode.{Mode}
-use Rattle.escapes.specs.declared.Scan.{Scan}
-use Rattle.escapes.proofs.Reading.{fine_plain, fine_escape, fine_bad, fine_run, text_plain, text_escape, text_last, text_run, some_text, text_length}
+use Rattle.escapes.proofs.Reading.{fine_plain, fine_escape, fine_bad, fine_run, text_plain, text_escape, text_last, text_run, text_length}
 
 -- nothing behind the end is escapable
 pub none_behind : (mode : Mode) (value : List ℕ) (n : ℕ) → length value ≤ n → escapable mode (get_or value n 0) ≡ false
@@ -33,194 +34,127 @@ one_behind mode value n e = go (leb (length value) n) refl
     go true f = absurd (let g = none_behind mode value n (leb-true (length value) n f) in let z : ◌≡◌ {A = ℕ} 0 1 = cc in omega arith)
     go false f = leb-false (length value) n f
 
-module _ (value : List ℕ) where
-  -- a byte that is no backslash
-  module _ (i : ℕ) (h : i < length value) (n : get_or value i 0 ≡ backslash → ⊥) where
-    first : drop i value ≡ get_or value i 0 ∷ drop (i + 1) value
-    first = drop-cons value i 0 h ∙ rw add-one
+-- ---- the byte of the text at the front of a value, and the rest of the value
 
-    plain_fine : (mode : Mode) → fine mode (drop i value) ≡ 1 + fine mode (drop (i + 1) value)
-    plain_fine mode = ap (fine mode) first ∙ (fine_plain mode (get_or value i 0) (drop (i + 1) value) (ne_eqb (get_or value i 0) backslash n) ∙ omega arith)
+pub unit_none : (mode : Mode) (value : List ℕ) → length value ≡ 0 → fine mode value ≡ 0
+unfolding fine
+unit_none mode [] h = refl
+unit_none mode (x ∷ xs) h = absurd (omega arith)
 
-    plain_text : text_of (drop i value) ≡ get_or value i 0 ∷ text_of (drop (i + 1) value)
-    plain_text = ap text_of first ∙ text_plain (get_or value i 0) (drop (i + 1) value) (ne_eqb (get_or value i 0) backslash n)
+module _ (mode : Mode) {value rest : List ℕ} {x : ℕ} (e : value ≡ x ∷ rest) where
+  -- a byte that is no backslash stands for itself
+  pub unit_plain : (x ≡ backslash → ⊥) → Unit mode value x rest
+  unit_plain n =
+      let p = ne_eqb x backslash n in
+      rw e (record { shorter = omega arith; onward = omega (arith, fine_plain mode x rest p); text = text_plain x rest p })
 
-  -- a backslash, and what stands behind it
-  module _ (start : ℕ) (h : start < length value) (b : get_or value start 0 ≡ backslash) where
-    begun : drop start value ≡ backslash ∷ drop (start + 1) value
-    begun = drop-cons value start 0 h ∙ rw (b, add-one)
+  module _ (b : x ≡ backslash) where
+    -- a backslash at the end
+    pub unit_last : length rest ≡ 0 → fine mode value ≡ 0
+    unit_last h = rw (e, b) (fine_bad mode rest (none_behind mode rest 0 (omega arith)))
 
-    next : get_or (drop (start + 1) value) 0 0 ≡ get_or value (start + 1) 0
-    next = let e : start + 1 + 0 ≡ start + 1 = omega arith in get_or-drop (start + 1) value 0 0 ∙ ap (λ (n : ℕ). get_or value n 0) e
+    module _ {more : List ℕ} {y : ℕ} (f : rest ≡ y ∷ more) where
+      -- one that begins no escape
+      pub unit_bad : escapable mode y ≡ false → fine mode value ≡ 0
+      unit_bad g = rw (e, b) (fine_bad mode rest (rw f g))
 
-    behind : drop 1 (drop (start + 1) value) ≡ drop (start + 2) value
-    behind = let e : start + 1 + 1 ≡ start + 2 = omega arith in drop-drop 1 (start + 1) value ∙ ap (λ (n : ℕ). drop n value) e
+      -- an escape
+      pub unit_escape : escapable mode y ≡ true → {byte : ℕ} → byte ≡ meant y → Unit mode value byte more
+      unit_escape g p =
+          rw (e, b, f, p)
+          (record {
+            shorter = omega arith;
+            onward = omega (arith, fine_escape mode (y ∷ more) g (omega arith));
+            text = text_escape (y ∷ more) (omega arith);
+          })
 
-    escape_fine : (mode : Mode) → escapable mode (get_or value (start + 1) 0) ≡ true → fine mode (drop start value) ≡ 2 + fine mode (drop (start + 2) value)
-    escape_fine mode e =
-        ap (fine mode) begun
-        ∙ (fine_escape mode (drop (start + 1) value) (ap (escapable mode) next ∙ e) (omega (arith, length-drop (start + 1) value, one_behind mode value (start + 1) e))
-        ∙ ap (λ (ys : List ℕ). 2 + fine mode ys) behind)
+-- ---- looking through a value: what is left of it, and the bytes of the text before
 
-    escape_bad : (mode : Mode) → escapable mode (get_or value (start + 1) 0) ≡ false → fine mode (drop start value) ≡ 0
-    escape_bad mode e = ap (fine mode) begun ∙ fine_bad mode (drop (start + 1) value) (ap (escapable mode) next ∙ e)
-
-    escape_text : start + 1 < length value → text_of (drop start value) ≡ meant (get_or value (start + 1) 0) ∷ text_of (drop (start + 2) value)
-    escape_text k =
-        ap text_of begun
-        ∙ (text_escape (drop (start + 1) value) (omega (arith, length-drop (start + 1) value))
-        ∙ (ap (λ (y : ℕ). meant y ∷ text_of (drop 1 (drop (start + 1) value))) next ∙ ap (λ (ys : List ℕ). meant (get_or value (start + 1) 0) ∷ text_of ys) behind))
-
--- ---- looking through a value
+pub record Looked (mode : Mode) (value rest : List ℕ) (n : ℕ) : Type 0 where
+  pub inside : length rest ≤ length value
+  pub left : fine mode value + length rest ≡ length value + fine mode rest
+  pub count : n + length (text_of rest) ≡ length (text_of value)
 
 -- as far as the first backslash
-pub looked_first : (mode : Mode) (value : List ℕ) {n : ℕ} → n ≡ 0 + run (other backslash) (drop 0 value) → Looked mode value n n
-looked_first mode value {n} e =
+pub looked_first : (mode : Mode) (value : List ℕ) (n : ℕ) → n ≤ run (other backslash) value → Looked mode value (drop n value) n
+looked_first mode value n h =
+    let w = within (other backslash) value in
     record {
-      inside = omega (arith, within (other backslash) value);
-      left = sym (fine_run mode n value (omega arith));
-      count =
-          omega (
-            arith,
-            ap length (text_run n value (omega arith)),
-            length-append (take n value) (text_of (drop n value)),
-            length-take-le n value (omega (arith, within (other backslash) value)),
-          );
+      inside = omega (arith, length-drop n value);
+      left = omega (arith, fine_run mode n value h, length-drop n value);
+      count = omega (arith, ap length (text_run n value h), length-append (take n value) (text_of (drop n value)), length-take-le n value (omega arith));
     }
 
-module _ {mode : Mode} {value : List ℕ} {i n : ℕ} (l : Looked mode value i n) where
+module _ {mode : Mode} {value rest : List ℕ} {n : ℕ} (l : Looked mode value rest n) where
   -- a text has no more bytes than its value
   pub looked_few : n ≤ length value
   looked_few = omega (arith, l.count, text_length value)
 
-  pub looked_plain : i < length value → (get_or value i 0 ≡ backslash → ⊥) → Looked mode value (i + 1) (n + 1)
-  looked_plain h b =
-      record {
-        inside = omega arith;
-        left = omega (arith, l.left, plain_fine value i h b mode);
-        count = omega (arith, l.count, ap length (plain_text value i h b));
-      }
+  pub looked_more : {b : ℕ} {more : List ℕ} → Unit mode rest b more → Looked mode value more (n + 1)
+  looked_more u = record {
+    inside = omega (arith, u.shorter, l.inside);
+    left = omega (arith, l.left, u.onward);
+    count = omega (arith, l.count, ap length u.text);
+  }
 
-  pub looked_escape : i < length value → get_or value i 0 ≡ backslash → escapable mode (get_or value (i + 1) 0) ≡ true → Looked mode value (i + 2) (n + 1)
-  looked_escape h b e =
-      let k = one_behind mode value (i + 1) e in
-      record {
-        inside = omega arith;
-        left = omega (arith, l.left, escape_fine value i h b mode e);
-        count = omega (arith, l.count, ap length (escape_text value i h b k));
-      }
-
-  -- at the end
-  pub looked_all : length value ≤ i → Scan.Fine n ≡ scanned mode value
+  -- at the end, or at a backslash that begins no escape
+  pub looked_all : length rest ≡ 0 → Ok n ≡ scanned mode value
   looked_all h =
-      let none : length (text_of (drop i value)) ≡ 0 = rw (drop_of_length-le value {i = i} h) (ap length (text_last [] (omega arith))) in
+      let none : length (text_of rest) ≡ 0 = omega (arith, text_length rest) in
       let all : n ≡ length (text_of value) = omega (arith, l.count) in
-      rw (le-leb (length value) (fine mode value) (omega (arith, l.left))) (ap Scan.Fine all)
+      let k : length value ≤ fine mode value = omega (arith, l.left) in
+      rw (le-leb (length value) (fine mode value) k) (ap (λ (m : ℕ). Ok m) all)
 
-  -- at a backslash that begins no escape
-  pub looked_bad : i < length value → get_or value i 0 ≡ backslash → escapable mode (get_or value (i + 1) 0) ≡ false → Scan.Bad i ≡ scanned mode value
-  looked_bad h b e =
-      let here : i ≡ fine mode value = omega (arith, l.left, escape_bad value i h b mode e) in
-      rw (lt-leb (length value) (fine mode value) (omega arith)) (ap Scan.Bad here)
+  pub looked_bad : (length rest ≡ 0 → ⊥) → fine mode rest ≡ 0 → Err (length value - length rest) ≡ scanned mode value
+  looked_bad h e =
+      let here : length value - length rest ≡ fine mode value = omega (arith, l.left, l.inside) in
+      rw (lt-leb (length value) (fine mode value) (omega (arith, l.left)), here) refl
+
+-- what a look finds of a value that is fine
+pub scanned_fine : (mode : Mode) (value : List ℕ) (n : ℕ) → Ok n ≡ scanned mode value → (escapes_fine mode value ≡ true) × (n ≡ length (text_of value))
+scanned_fine mode value n e = go (escapes_fine mode value) refl e
+  where
+    go : (t : Bool) → escapes_fine mode value ≡ t → ◌≡◌ {A = Result ℕ ℕ} (Ok n) (pick t (Ok (length (text_of value))) (Err (fine mode value)))
+        → (escapes_fine mode value ≡ true) × (n ≡ length (text_of value))
+    go true t e = (t, cc)
+    go false t e = cc
 
 -- bytes that fit, stored one after the other
 all_set : (xs old : List ℕ) → length xs ≤ length old → sets old 0 xs ≡ laid xs old
 all_set xs old h = sets-eq xs old 0 (omega arith) ∙ (rw (zero-add (length xs)) (sym (whole xs old h)))
 
--- ---- storing the text: i bytes of the value are done, and the next byte of the text goes to `at`
+-- ---- storing the text: the next byte of it goes to `at`, and comes from what is left of the value
 
-pub record Storing (old value out : List ℕ) (i at : ℕ) : Type 0 where
-  pub inside : i ≤ length value
-  pub count : at + length (text_of (drop i value)) ≡ length (text_of value)
-  pub on : sets out at (text_of (drop i value)) ≡ sets old 0 (text_of value)
+pub record Storing (mode : Mode) (old value out rest : List ℕ) (at : ℕ) : Type 0 where
+  pub sound : length rest ≤ fine mode rest
+  pub count : at + length (text_of rest) ≡ length (text_of value)
+  pub on : sets out at (text_of rest) ≡ sets old 0 (text_of value)
   pub same : length out ≡ length old
 
-pub storing_start : (old value : List ℕ) → Storing old value old 0 0
-storing_start old value = record { inside = omega arith; count = omega arith; on = refl; same = refl }
+pub storing_start : (mode : Mode) (old value : List ℕ) → escapes_fine mode value ≡ true → Storing mode old value old value 0
+storing_start mode old value e = record { sound = leb-true (length value) (fine mode value) e; count = omega arith; on = refl; same = refl }
 
-module _ {old value out : List ℕ} {i at : ℕ} (s : Storing old value out i at) where
-  -- one byte of the text is stored, and j bytes of the value are done
-  storing_byte : (b j : ℕ) → j ≤ length value → text_of (drop i value) ≡ b ∷ text_of (drop j value) → Storing old value (set out at b) j (at + 1)
-  storing_byte b j h e =
-      record {
-        inside = h;
-        count = omega (arith, s.count, ap length e);
-        on = rw add-one ((rw e at s.on));
-        same = length-set out at b ∙ s.same;
-      }
+module _ {mode : Mode} {old value out rest : List ℕ} {at : ℕ} (s : Storing mode old value out rest at) where
+  module _ {b : ℕ} {more : List ℕ} (u : Unit mode rest b more) where
+    pub storing_more : Storing mode old value (set out at b) more (at + 1)
+    storing_more = record {
+      sound = omega (arith, s.sound, u.onward);
+      count = omega (arith, s.count, ap length u.text);
+      on = rw add-one (rw u.text at s.on);
+      same = length-set out at b ∙ s.same;
+    }
 
-  pub storing_plain : i < length value → (get_or value i 0 ≡ backslash → ⊥) → Storing old value (set out at (get_or value i 0)) (i + 1) (at + 1)
-  storing_plain h n = storing_byte (get_or value i 0) (i + 1) (omega arith) (plain_text value i h n)
-
-  pub storing_escape : i + 1 < length value → get_or value i 0 ≡ backslash → Storing old value (set out at (meant (get_or value (i + 1) 0))) (i + 2) (at + 1)
-  storing_escape h b = storing_byte (meant (get_or value (i + 1) 0)) (i + 2) (omega arith) (escape_text value i (omega arith) b h)
-
-  -- there is room while a byte is left
-  pub storing_room : length (text_of value) ≤ length old → i < length value → at < length out
-  storing_room h k = omega (arith, s.count, s.same, some_text (drop i value) (omega (arith, length-drop i value)))
+    -- there is room while a byte is left
+    pub storing_room : length (text_of value) ≤ length old → at < length out
+    storing_room h = omega (arith, s.count, s.same, ap length u.text)
 
   -- at the end
-  pub storing_all : length (text_of value) ≤ length old → length value ≤ i → out ≡ laid (text_of value) old
-  storing_all h k =
-      let none : text_of (drop i value) ≡ [] = ap text_of (drop_of_length-le value {i = i} k) ∙ text_last [] (omega arith) in
+  pub storing_all : length (text_of value) ≤ length old → fine mode rest ≡ 0 → out ≡ laid (text_of value) old
+  storing_all h e =
+      let n : length rest ≡ 0 = omega (arith, s.sound) in
+      let none : text_of rest ≡ [] = text_last rest (omega arith) ∙ empty rest n in
       (rw none at s.on) ∙ all_set (text_of value) old h
-
-  -- the last byte is stored as it is
-  pub storing_last : length (text_of value) ≤ length old → i < length value → length value ≤ i + 1 → set out at (get_or value i 0) ≡ laid (text_of value) old
-  storing_last h k m =
-      let one : text_of (drop i value) ≡ get_or value i 0 ∷ [] =
-      text_last (drop i value) (omega (arith, length-drop i value)) ∙ (drop-cons value i 0 k ∙ ap (◌∷◌ (get_or value i 0)) (drop_of_length-le value {i = suc i} (omega arith))) in
-      (rw one at s.on) ∙ all_set (text_of value) old h
-
--- ---- one byte of the text at a time
-
-leb_plus : (n a b : ℕ) → leb (n + a) (n + b) ≡ leb a b
-leb_plus n a b = go (leb a b) refl
-  where
-    go : (t : Bool) → leb a b ≡ t → leb (n + a) (n + b) ≡ t
-    go true t = le-leb (n + a) (n + b) (omega (arith, leb-true a b t))
-    go false t = lt-leb (n + a) (n + b) (omega (arith, leb-false a b t))
-
-module _ (mode : Mode) (value : List ℕ) (at : ℕ) (h : at < length value) where
-  -- so many bytes are fine: the whole is if the rest is
-  fine_on : (n : ℕ) → at + n ≤ length value → fine mode (drop at value) ≡ n + fine mode (drop (at + n) value)
-      → escapes_fine mode (drop at value) ≡ escapes_fine mode (drop n (drop at value))
-  fine_on n k e =
-      let d : length (drop at value) ≡ n + length (drop (at + n) value) = omega (arith, length-drop at value, length-drop (at + n) value) in
-      rw (e, d, drop-drop n at value) (leb_plus n (length (drop (at + n) value)) (fine mode (drop (at + n) value)))
-
-  -- a byte that is no backslash stands for itself
-  pub unit_plain : (get_or value at 0 ≡ backslash → ⊥) → Turns mode (drop at value) (record { byte = get_or value at 0; used = 1 })
-  unit_plain n =
-      let t : text_of (drop at value) ≡ get_or value at 0 ∷ text_of (drop 1 (drop at value)) =
-      plain_text value at h n ∙ ap (λ (ys : List ℕ). get_or value at 0 ∷ text_of ys) (sym (drop-drop 1 at value)) in
-      record {
-        bad = λ u. absurd (omega arith);
-        inside = omega (arith, length-drop at value);
-        onward = λ u. fine_on 1 (omega arith) (plain_fine value at h n mode);
-        byte = λ u. t;
-      }
-
-  -- a backslash that begins no escape
-  pub unit_bad : get_or value at 0 ≡ backslash → escapable mode (get_or value (at + 1) 0) ≡ false → (byte : ℕ) → Turns mode (drop at value) (record { byte = byte; used = 0 })
-  unit_bad b e byte =
-      record {
-        bad = λ u. rw (escape_bad value at h b mode e) (lt-leb (length (drop at value)) 0 (omega (arith, length-drop at value)));
-        inside = omega arith;
-        onward = λ u. absurd (omega arith);
-        byte = λ u. absurd (omega arith);
-      }
-
-  -- an escape
-  pub unit_escape : get_or value at 0 ≡ backslash → escapable mode (get_or value (at + 1) 0) ≡ true
-      → Turns mode (drop at value) (record { byte = meant (get_or value (at + 1) 0); used = 2 })
-  unit_escape b e =
-      let k = one_behind mode value (at + 1) e in
-      let t : text_of (drop at value) ≡ meant (get_or value (at + 1) 0) ∷ text_of (drop 2 (drop at value)) =
-      escape_text value at h b k ∙ ap (λ (ys : List ℕ). meant (get_or value (at + 1) 0) ∷ text_of ys) (sym (drop-drop 2 at value)) in
-      record {
-        bad = λ u. absurd (omega arith);
-        inside = omega (arith, length-drop at value);
-        onward = λ u. fine_on 2 (omega arith) (escape_fine value at h b mode e);
-        byte = λ u. t;
-      }
+    where
+      empty : (xs : List ℕ) → length xs ≡ 0 → xs ≡ []
+      empty [] h = refl
+      empty (x ∷ xs) h = absurd (omega arith)

@@ -7,9 +7,9 @@ use Prim.Native.Nat.{ℕ, suc, ◌+◌, ◌-◌, ◌*◌, ◌≤◌, ◌<◌, mi
 use native.Mathlib.Nat.{not-suc-le-zero, le_of_suc-le-suc}
 use native.Mathlib.Numerals.{add-one}
 use native.Mathlib.Omega.{arith}
-use mir.Val.{bool_byte}
-use lib.ListN.{length, get_or, set, take, drop, drop_of_length-le, length-append, length-drop, take-append-drop}
-use lib.Seq.{drop-cons, drop-drop}
+use Rattle.std.specs.Int.{from_bool}
+use lib.ListN.{length, get_or, set, take, drop, length-append, take-append-drop}
+use lib.Seq.{drop-cons}
 use lib.Dec.{eqb, ltb}
 use borrow.Author.Tests.{le-leb, lt-leb, ltb-true, ltb-false, lt-ltb, le-ltb, eq-eqb, ne_eqb}
 use Rattle.octets.specs.Choice.{pick}
@@ -19,7 +19,6 @@ use Rattle.octets.specs.Laid.{laid, laid_from}
 use Rattle.octets.specs.Answers.{longest, too_long, output, room_answer}
 use Rattle.octets.specs.declared.Output.{Output}
 use Rattle.octets.proofs.Laid.{nothing}
-use Rattle.octets.proofs.Lists.{lent}
 use Rattle.octets.proofs.Writing.{one_laid, from_then, length_from, lent_back}
 use Rattle.escapes.specs.Text.{backslash, small_n, safe, letter, spelt, as_value}
 use Rattle.escapes.specs.Answers.{value_answer}
@@ -66,38 +65,35 @@ value_run (x ∷ xs) h = go (safe x) refl h (value_run xs)
     go true e h rest = value_safe x xs e ∙ ap (◌∷◌ x) (rest (le_of_suc-le-suc h))
     go false e h rest = absurd (not-suc-le-zero h)
 
--- from i on: nothing, a byte, or a part
-module _ (text : List ℕ) (i : ℕ) where
-  pub value_none : length text ≤ i → as_value (drop i text) ≡ []
+-- a part in front, or a byte
+pub value_part : {text : List ℕ} (part rest : List ℕ) → text ≡ part ++ rest → as_value text ≡ as_value part ++ as_value rest
+value_part part rest e = ap as_value e ∙ value_append part rest
+
+pub part_length : {text : List ℕ} (part rest : List ℕ) → text ≡ part ++ rest → length (as_value text) ≡ length (as_value part) + length (as_value rest)
+part_length part rest e = ap length (value_part part rest e) ∙ length-append (as_value part) (as_value rest)
+
+module _ (text : List ℕ) (i : ℕ) (h : i < length text) where
+  value_at : as_value (drop i text) ≡ spelt (get_or text i 0) ++ as_value (drop (i + 1) text)
   unfolding as_value
-  value_none h = rw (drop_of_length-le text h)
-
-  value_at : i < length text → as_value (drop i text) ≡ spelt (get_or text i 0) ++ as_value (drop (i + 1) text)
-  unfolding as_value
-  value_at h = ap as_value (drop-cons text i 0 h) ∙ rw add-one
-
-  value_part : (j : ℕ) → i ≤ j → as_value (drop i text) ≡ as_value (take (j - i) (drop i text)) ++ as_value (drop j text)
-  value_part j h =
-      let w : i + (j - i) ≡ j = omega arith in
-      let r : drop (j - i) (drop i text) ≡ drop j text = drop-drop (j - i) i text ∙ ap (λ (m : ℕ). drop m text) w in
-      ap as_value (sym (take-append-drop (j - i) (drop i text)))
-      ∙ (value_append (take (j - i) (drop i text)) (drop (j - i) (drop i text)) ∙ ap (λ (ys : List ℕ). as_value (take (j - i) (drop i text)) ++ as_value ys) r)
-
-  pub part_length : (j : ℕ) → i ≤ j → length (as_value (drop i text)) ≡ length (as_value (take (j - i) (drop i text))) + length (as_value (drop j text))
-  part_length j h = ap length (value_part j h) ∙ length-append (as_value (take (j - i) (drop i text))) (as_value (drop j text))
+  value_at = ap as_value (drop-cons text i 0 h) ∙ rw add-one
 
   -- a byte is one more, or two by the test for a backslash
-  pub count_at : i < length text → (t : Bool) → safe (get_or text i 0) ≡ not t
-      → (bool_byte t ≤ 1) × (length (as_value (drop i text)) ≡ 1 + bool_byte t + length (as_value (drop (i + 1) text)))
-  count_at h = go
+  pub count_at : (t : Bool) → safe (get_or text i 0) ≡ not t
+      → (from_bool t ≤ 1) × (length (as_value (drop i text)) ≡ 1 + from_bool t + length (as_value (drop (i + 1) text)))
+  count_at = go
     where
       by : (t : Bool) → safe (get_or text i 0) ≡ t
           → length (as_value (drop i text)) ≡ length (pick t (get_or text i 0 ∷ []) (backslash ∷ letter (get_or text i 0) ∷ []) ++ as_value (drop (i + 1) text))
-      by t e = ap length (value_at h) ∙ rw e
+      by t e = ap length value_at ∙ rw e
 
-      go : (t : Bool) → safe (get_or text i 0) ≡ not t → (bool_byte t ≤ 1) × (length (as_value (drop i text)) ≡ 1 + bool_byte t + length (as_value (drop (i + 1) text)))
+      go : (t : Bool) → safe (get_or text i 0) ≡ not t → (from_bool t ≤ 1) × (length (as_value (drop i text)) ≡ 1 + from_bool t + length (as_value (drop (i + 1) text)))
       go true e = (omega arith, omega (arith, by false e))
       go false e = (omega arith, omega (arith, by true e))
+
+pub value_none : (text : List ℕ) → length text ≡ 0 → as_value text ≡ []
+unfolding as_value
+value_none [] h = refl
+value_none (x ∷ xs) h = absurd (omega arith)
 
 -- ---- whether one of the first bytes wants a backslash: a run of bytes that pass neither test ends where one of the two runs ends
 
@@ -135,77 +131,75 @@ all_safe text old n h e p =
     let same = value_run text (omega (arith, ltb-false (run safe text) n e)) in
     record { count = sym (ap length same); is = p ∙ ap (λ (xs : List ℕ). laid xs old) (sym same) }
 
--- ---- at work on a text in a buffer that has room: what is laid, and what is to come from i on
+-- ---- at work on a text in a buffer that has room: what is laid, and what is left of it to come
 
-pub record Spelling (old out text : List ℕ) (i at : ℕ) : Type 0 where
-  pub inside : i ≤ length text
+pub record Spelling (old out text rest : List ℕ) (at : ℕ) : Type 0 where
   pub room : length (as_value text) ≤ length old
   pub same : length out ≡ length old
-  pub count : at + length (as_value (drop i text)) ≡ length (as_value text)
-  pub lies : laid_from at (as_value (drop i text)) out ≡ laid (as_value text) old
+  pub count : at + length (as_value rest) ≡ length (as_value text)
+  pub lies : laid_from at (as_value rest) out ≡ laid (as_value text) old
 
-pub begin : (old text : List ℕ) → length (as_value text) ≤ length old → Spelling old old text 0 0
-begin old text h = record { inside = omega arith; room = h; same = refl; count = omega arith; lies = refl }
+pub begin : (old text : List ℕ) → length (as_value text) ≤ length old → Spelling old old text text 0
+begin old text h = record { room = h; same = refl; count = omega arith; lies = refl }
 
-module _ {old out text : List ℕ} {i at : ℕ} (f : Spelling old out text i at) where
+module _ {old out text rest : List ℕ} {at : ℕ} (f : Spelling old out text rest at) where
   -- nothing is to come
-  pub finish : length text ≤ i → Written text old out at
+  pub finish : length rest ≡ 0 → Written text old out at
   finish h =
-      let none : as_value (drop i text) ≡ [] = value_none text i h in
+      let none : as_value rest ≡ [] = value_none rest h in
       record {
         count = omega (arith, f.count, ap length none);
         is = sym (rw (nothing (drop at out)) (take-append-drop at out)) ∙ (sym (ap (λ (xs : List ℕ). laid_from at xs out) none) ∙ f.lies);
       }
 
   -- xs is laid, the next part
-  module _ (xs : List ℕ) (j : ℕ) (h : j ≤ length text) (e : as_value (drop i text) ≡ xs ++ as_value (drop j text)) where
+  module _ (xs more : List ℕ) (e : as_value rest ≡ xs ++ as_value more) where
     fits : at + length xs ≤ length out
-    fits = omega (arith, f.room, f.same, f.count, ap length e, length-append xs (as_value (drop j text)))
+    fits = omega (arith, f.room, f.same, f.count, ap length e, length-append xs (as_value more))
 
-    step : {next : List ℕ} → next ≡ laid_from at xs out → Spelling old next text j (at + length xs)
+    step : {next : List ℕ} → next ≡ laid_from at xs out → Spelling old next text more (at + length xs)
     step p = record {
-      inside = h;
       room = f.room;
       same = rw p (length_from at xs out ∙ f.same);
-      count = omega (arith, f.count, ap length e, length-append xs (as_value (drop j text)));
-      lies = rw p (from_then at xs (as_value (drop j text)) out ∙ (sym (ap (λ (ys : List ℕ). laid_from at ys out) e) ∙ f.lies));
+      count = omega (arith, f.count, ap length e, length-append xs (as_value more));
+      lies = rw p (from_then at xs (as_value more) out ∙ (sym (ap (λ (ys : List ℕ). laid_from at ys out) e) ∙ f.lies));
     }
 
-  -- the bytes before j are laid, over what is lent from `at` on
-  module _ (j : ℕ) (h : i ≤ j) (k : j ≤ length text) where
-    pub lent_room : length (as_value (take (j - i) (drop i text))) ≤ length (take (length out - at) (drop at out))
-    lent_room = rw (lent out at, length-drop) (omega (arith, fits (as_value (take (j - i) (drop i text))) j k (value_part text i j h)))
+  -- a part is laid, over what is lent from `at` on
+  module _ (part more : List ℕ) (e : rest ≡ part ++ more) where
+    pub lent_room : at + length (as_value part) ≤ length out
+    lent_room = fits (as_value part) more (value_part part more e)
 
-    pub turn_part : {ys : List ℕ} {n : ℕ} → Written (take (j - i) (drop i text)) (take (length out - at) (drop at out)) ys n
-        → Spelling old (take at out ++ (ys ++ drop (length out - at) (drop at out))) text j (at + n)
-    turn_part w =
-        rw w.count
-        (step (as_value (take (j - i) (drop i text))) j k (value_part text i j h) (lent_back at (as_value (take (j - i) (drop i text))) out w.is))
+    pub turn_part : {ys : List ℕ} {n : ℕ} → Written part (take (length out - at) (drop at out)) ys n
+        → Spelling old (take at out ++ (ys ++ drop (length out - at) (drop at out))) text more (at + n)
+    turn_part w = rw w.count (step (as_value part) more (value_part part more e) (lent_back at (as_value part) out w.is))
 
-  -- the byte at i: as it is, or with a backslash
-  module _ (h : i < length text) where
-    as_it_is : safe (get_or text i 0) ≡ true → as_value (drop i text) ≡ (get_or text i 0 ∷ []) ++ as_value (drop (i + 1) text)
-    as_it_is e = value_at text i h ∙ rw e
+-- the byte at i: as it is, or with a backslash
+module _ {old out text : List ℕ} {i at : ℕ} (f : Spelling old out text (drop i text) at) (h : i < length text) where
+  module _ (e : safe (get_or text i 0) ≡ true) where
+    as_it_is : as_value (drop i text) ≡ (get_or text i 0 ∷ []) ++ as_value (drop (i + 1) text)
+    as_it_is = value_at text i h ∙ rw e
 
-    pub room_byte : safe (get_or text i 0) ≡ true → at < length out
-    room_byte e = omega (arith, fits (get_or text i 0 ∷ []) (i + 1) (omega arith) (as_it_is e))
+    pub room_byte : at < length out
+    room_byte = omega (arith, fits f (get_or text i 0 ∷ []) (drop (i + 1) text) as_it_is)
 
-    pub turn_byte : safe (get_or text i 0) ≡ true → Spelling old (set out at (get_or text i 0)) text (i + 1) (at + 1)
-    turn_byte e = step (get_or text i 0 ∷ []) (i + 1) (omega arith) (as_it_is e) (one_laid at (get_or text i 0) out (room_byte e))
+    pub turn_byte : Spelling old (set out at (get_or text i 0)) text (drop (i + 1) text) (at + 1)
+    turn_byte = step f (get_or text i 0 ∷ []) (drop (i + 1) text) as_it_is (one_laid at (get_or text i 0) out room_byte)
 
-    escaped : safe (get_or text i 0) ≡ false → as_value (drop i text) ≡ (backslash ∷ letter (get_or text i 0) ∷ []) ++ as_value (drop (i + 1) text)
-    escaped e = value_at text i h ∙ rw e
+  module _ (e : safe (get_or text i 0) ≡ false) where
+    escaped : as_value (drop i text) ≡ (backslash ∷ letter (get_or text i 0) ∷ []) ++ as_value (drop (i + 1) text)
+    escaped = value_at text i h ∙ rw e
 
-    pub room_escape : safe (get_or text i 0) ≡ false → at + 2 ≤ length out
-    room_escape e = fits (backslash ∷ letter (get_or text i 0) ∷ []) (i + 1) (omega arith) (escaped e)
+    pub room_escape : at + 2 ≤ length out
+    room_escape = fits f (backslash ∷ letter (get_or text i 0) ∷ []) (drop (i + 1) text) escaped
 
-    pub turn_escape : safe (get_or text i 0) ≡ false → {b : ℕ} → b ≡ letter (get_or text i 0) → Spelling old (set (set out at backslash) (at + 1) b) text (i + 1) (at + 2)
-    turn_escape e {b} p = step (backslash ∷ letter (get_or text i 0) ∷ []) (i + 1) (omega arith) (escaped e) (rw p both)
+    pub turn_escape : {b : ℕ} → b ≡ letter (get_or text i 0) → Spelling old (set (set out at backslash) (at + 1) b) text (drop (i + 1) text) (at + 2)
+    turn_escape {b} p = step f (backslash ∷ letter (get_or text i 0) ∷ []) (drop (i + 1) text) escaped (rw p both)
       where
         both : set (set out at backslash) (at + 1) (letter (get_or text i 0)) ≡ laid_from at (backslash ∷ letter (get_or text i 0) ∷ []) out
         both =
-            rw (one_laid at backslash out (omega (arith, room_escape e)))
-            (one_laid (at + 1) (letter (get_or text i 0)) (laid_from at (backslash ∷ []) out) (rw length_from (omega (arith, room_escape e)))
+            rw (one_laid at backslash out (omega (arith, room_escape)))
+            (one_laid (at + 1) (letter (get_or text i 0)) (laid_from at (backslash ∷ []) out) (rw length_from (omega (arith, room_escape)))
             ∙ from_then at (backslash ∷ []) (letter (get_or text i 0) ∷ []) out)
 
 -- ---- answers

@@ -1,30 +1,26 @@
 -- Serves inner contracts only. One byte of a text at the front of its value, what a look through a value finds, and what a value leaves that is laid.
 -- Assumes nothing.
-use Rattle.std.specs.Prelude.{ℕ, ◌+◌, ◌≤◌, ◌<◌, ◌≡◌, Bool, false, ◌&&◌, List, ◌∷◌, length, drop}
+use Rattle.std.specs.Prelude.{ℕ, ◌+◌, ◌<◌, ◌≡◌, Bool, ◌&&◌, Option, MatchOption, Result, Ok, Err, List, ◌∷◌, length}
+use denote.Ref.{Bor}
 use Rattle.octets.specs.Choice.{pick}
 use Rattle.octets.specs.Words.{same_bytes}
 use Rattle.octets.specs.Laid.{laid}
 use Rattle.escapes.specs.Text.{fine, escapes_fine, text_of, as_value}
 use Rattle.escapes.specs.declared.Mode.{Mode}
-use Rattle.escapes.specs.declared.Scan.{Scan}
-use Rattle.escapes.specs.declared.Unit.{Unit}
 
--- the first bad escape, or the length of the text
-abbrev pub scanned : Mode → List ℕ → Scan
-scanned mode value = pick (escapes_fine mode value) (Scan.Fine (length (text_of value))) (Scan.Bad (fine mode value))
+-- the length of the text, or the place of the first bad escape
+abbrev pub scanned : Mode → List ℕ → Result ℕ ℕ
+scanned mode value = pick (escapes_fine mode value) (Ok (length (text_of value))) (Err (fine mode value))
 
--- i bytes of a value are passed over, all of them fine, and stand for n bytes of its text
-pub record Looked (mode : Mode) (value : List ℕ) (i n : ℕ) : Type 0 where
-  pub inside : i ≤ length value
-  pub left : i + fine mode (drop i value) ≡ fine mode value
-  pub count : n + length (text_of (drop i value)) ≡ length (text_of value)
+-- a byte of the text stands at the front of a value, and the rest of the value for the rest of the text; as many bytes are fine as before
+pub record Unit (mode : Mode) (value : List ℕ) (byte : ℕ) (rest : List ℕ) : Type 0 where
+  pub shorter : length rest < length value
+  pub onward : fine mode value + length rest ≡ length value + fine mode rest
+  pub text : text_of value ≡ byte ∷ text_of rest
 
--- so many bytes at the front of a value stand for one byte of its text, and none where a backslash begins no escape
-pub record Turns (mode : Mode) (value : List ℕ) (unit : Unit) : Type 0 where
-  pub bad : unit.used ≡ 0 → escapes_fine mode value ≡ false
-  pub inside : unit.used ≤ length value
-  pub onward : 0 < unit.used → escapes_fine mode value ≡ escapes_fine mode (drop unit.used value)
-  pub byte : 0 < unit.used → text_of value ≡ unit.byte ∷ text_of (drop unit.used value)
+-- such a byte and the rest, or none, where no byte is fine: at the end, or where a backslash begins no escape
+abbrev pub Turns : Mode → List ℕ → Option (ℕ × Bor (List ℕ)) → Type 0
+Turns mode value found = MatchOption found (fine mode value ≡ 0) (λ unit. Unit mode value unit.0 unit.1.now)
 
 -- two values that the mode reads, and as the same text
 abbrev pub read_alike : Mode → List ℕ → List ℕ → Bool

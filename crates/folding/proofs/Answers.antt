@@ -8,13 +8,15 @@ use native.Mathlib.Omega.{arith}
 use lib.ListN.{length, take, drop, take-append-drop, length-append}
 use lib.Seq.{take-take}
 use lib.Dec.{leb, eqb}
-use borrow.Author.Tests.{le-leb, lt-leb, leb-true, eq-eqb, ne_eqb}
+use borrow.Author.Tests.{le-leb, lt-leb, leb-true, eq-eqb, ne_eqb, eqb-true, eqb-false}
+use Rattle.std.specs.Prelude.{Result, Ok, Err, ⊤}
 use Rattle.octets.specs.Choice.{pick}
 use Rattle.octets.specs.Bytes.{lf, other, ascii}
 use Rattle.octets.specs.Runs.{run, only}
-use Rattle.octets.specs.Laid.{counted}
+use Rattle.octets.specs.Laid.{laid, counted}
 use Rattle.octets.specs.Answers.{longest, done, too_long, has_break, output, room_answer}
 use Rattle.octets.specs.declared.Output.{Output}
+use Rattle.octets.proofs.Answers.{kept, written}
 use Rattle.octets.proofs.Bools.{both}
 use Rattle.octets.proofs.Runs.{whole, whole_take, through, all_of, only_both}
 use Rattle.characters.specs.Utf8.{is_utf8}
@@ -22,7 +24,7 @@ use Rattle.characters.specs.Quick.{common_text}
 use Rattle.characters.proofs.Units.{behind_ascii}
 use Rattle.characters.proofs.Utf8.{ascii_utf8, utf8_append}
 use Rattle.characters.proofs.Quick.{common_utf8, common_only, shown_other}
-use Rattle.folding.specs.Answers.{foldable, byte_answer, line_answer, fold_answer}
+use Rattle.folding.specs.Answers.{foldable, byte_answer, passed, line_answer, fold_answer, fold_out}
 
 -- ---- before the fold
 
@@ -88,18 +90,44 @@ module _ (number sound : ℕ) (line : List ℕ) where
       by true h e = leb-true (length line) longest h
       by false h e = omega arith
 
+-- ---- what a check gives
+
+pub passed_ok : (told : Output) → Ok tt ≡ passed told → told.answer ≡ done
+passed_ok told e = go (eqb told.answer done) refl e
+  where
+    go : (t : Bool) → eqb told.answer done ≡ t → ◌≡◌ {A = Result ⊤ Output} (Ok tt) (pick t (Ok tt) (Err told)) → told.answer ≡ done
+    go true t e = eqb-true told.answer done t
+    go false t e = cc
+
+pub passed_err : (told refusal : Output) → Err refusal ≡ passed told → (refusal ≡ told) × (refusal.answer ≡ done → ⊥)
+passed_err told refusal e = go (eqb told.answer done) refl e
+  where
+    go : (t : Bool) → eqb told.answer done ≡ t → ◌≡◌ {A = Result ⊤ Output} (Err refusal) (pick t (Ok tt) (Err told))
+        → (refusal ≡ told) × (refusal.answer ≡ done → ⊥)
+    go true t e = cc
+    go false t e = let z : refusal ≡ told = cc in (z, λ h. eqb-false told.answer done t (rw z at h))
+
 -- ---- the fold
 
-module _ (checked : List ℕ → Output) (fold : List ℕ → List ℕ) (line : List ℕ) (room : ℕ) {r : Output} (told : r ≡ checked line) where
-  pub refused : (r.answer ≡ done → ⊥) → r ≡ fold_answer checked fold line room
-  refused h =
-      let off : eqb (checked line).answer done ≡ false = rw (← told) (ne_eqb r.answer done h) in
-      rw off told
+module _ (checked : List ℕ → Output) (fold : List ℕ → List ℕ) (line old : List ℕ) where
+  pub refused : (refusal : Output) → Err refusal ≡ passed (checked line)
+      → (refusal ≡ fold_answer checked fold line (length old)) × (old ≡ fold_out checked fold line old)
+  refused refusal e =
+      let p = passed_err (checked line) refusal e in
+      kept (rw (← p.0, ne_eqb refusal.answer done p.1) refl) (fold line) old p.1
 
   -- the count is exact, since the line is not too long
-  pub folded : ((checked line).answer ≡ done → length line ≤ longest) → r.answer ≡ done → length (fold line) ≤ 4 * length line
-      → {n : ℕ} → n ≡ counted (length (fold line)) → {answered : Output} → answered ≡ room_answer n room → answered ≡ fold_answer checked fold line room
-  folded short h small {n} c e =
-      let on : eqb (checked line).answer done ≡ true = rw (← told) (eq-eqb r.answer done h) in
-      let exact : n ≡ length (fold line) = c ∙ min-eq_left (omega (arith, short (rw told at h))) in
-      rw on (e ∙ ap (λ (k : ℕ). room_answer k room) exact)
+  module _ (e : Ok tt ≡ passed (checked line)) (short : (checked line).answer ≡ done → length line ≤ longest) (small : length (fold line) ≤ 4 * length line)
+      {n : ℕ} (c : n ≡ counted (length (fold line))) {told : Output} (r : told ≡ room_answer n (length old)) where
+    folded : told ≡ fold_answer checked fold line (length old)
+    folded =
+        let h = passed_ok (checked line) e in
+        let exact : n ≡ length (fold line) = c ∙ min-eq_left (omega (arith, short h)) in
+        rw (eq-eqb (checked line).answer done h) (r ∙ ap (λ (k : ℕ). room_answer k (length old)) exact)
+
+    pub no_room : (told.answer ≡ done → ⊥) → (told ≡ fold_answer checked fold line (length old)) × (old ≡ fold_out checked fold line old)
+    no_room h = kept folded (fold line) old h
+
+    pub laid_out : told.answer ≡ done → {new : List ℕ} → new ≡ laid (fold line) old
+        → (told ≡ fold_answer checked fold line (length old)) × (new ≡ fold_out checked fold line old)
+    laid_out h p = written folded (fold line) old h p

@@ -2,10 +2,9 @@
 use mathlib.Core.Path.{◌≡◌, refl, sym, ◌∙◌}
 use mathlib.Core.Bool.{Bool, true, false}
 use mathlib.Core.List.{List, [], ◌∷◌, ◌++◌, append-nil, append_assoc, flatten}
-use Prim.Native.Nat.{ℕ, zero, suc, ◌+◌, ◌-◌, ◌*◌, ◌≤◌, ◌<◌}
+use Prim.Native.Nat.{ℕ, zero, suc, ◌-◌, ◌*◌, ◌≤◌, ◌<◌}
 use native.Mathlib.Omega.{arith}
 use lib.ListN.{length, take, drop, get_or, length-append, length-take, length-drop, take-append-drop}
-use lib.Seq.{drop-drop, take_all}
 use lib.Dec.{leb}
 use borrow.Author.Tests.{le-leb, lt-leb, leb-false}
 use Rattle.octets.specs.Choice.{pick}
@@ -119,46 +118,29 @@ repository_joins line = refl
 pub repository_keeps : (line : List ℕ) → flatten (repository_pieces line) ≡ line
 repository_keeps line = cuts_flatten (length line) first line
 
--- ---- at work on a line: what is laid, and what is to come from `at` on
+-- ---- at work on a line: what is laid, and what is left of it to come
 
-pub record Cutting (old out line : List ℕ) (width at n : ℕ) : Type 0 where
-  pub inside : at ≤ length line
+pub record Cutting (old out line : List ℕ) (width : ℕ) (rest : List ℕ) (n : ℕ) : Type 0 where
   pub wide : 1 < width
   pub narrow : width ≤ first
-  pub writing : Writing 0 old (repository line) out (joined (pieces_of width (drop at line))) n
+  pub writing : Writing 0 old (repository line) out (joined (pieces_of width rest)) n
 
-pub begin : (old line : List ℕ) → Cutting old old line first 0 0
-begin old line = record { inside = omega arith; wide = omega arith; narrow = omega arith; writing = start 0 old (repository line) }
+pub begin : (old line : List ℕ) → Cutting old old line first line 0
+begin old line = record { wide = omega arith; narrow = omega arith; writing = start 0 old (repository line) }
 
-module _ {old out line : List ℕ} {width at n : ℕ} (f : Cutting old out line width at n) where
-  all_left : take (length line - at) (drop at line) ≡ drop at line
-  all_left = take_all (length line - at) (drop at line) (omega (arith, length-drop at line))
-
-  -- the byte at the width is there
-  pub fits : first < length line - at → (0 < width) × (width < length (take (length line - at) (drop at line)))
-  fits h = (omega (arith, f.wide), rw all_left (omega (arith, length-drop at line, f.narrow)))
-
-  module _ (h : first < length line - at) {k : ℕ} (e : k ≡ cut width (take (length line - at) (drop at line))) where
-    pub some : (0 < k) × (k ≤ width)
-    some = rw e (cut_some width (take (length line - at) (drop at line)) f.wide)
-
-    -- a piece is cut off, and a break laid behind it
-    pub turn : length old ≤ most → {next : List ℕ} {m : ℕ}
-        → Lays n (take (at + k - at) (drop at line) ++ brk) out next m → Cutting old next line later (at + k) m
-    turn b p =
-        let t : first < length (drop at line) = omega (arith, length-drop at line) in
-        let w : at + k - at ≡ k = omega arith in
-        let i : cut width (drop at line) ≡ k = sym (rw all_left at e) in
-        record {
-          inside = omega (arith, some, f.narrow);
-          wide = omega arith;
-          narrow = omega arith;
-          writing = more f.writing b (take (at + k - at) (drop at line) ++ brk) (joined (pieces_of later (drop (at + k) line)))
-              (join_long width (drop at line) f.wide t
-              ∙ rw (i, w, drop-drop k at line) (sym (append_assoc (take k (drop at line)) brk (joined (pieces_of later (drop (at + k) line)))))) p;
-        }
+module _ {old out line : List ℕ} {width : ℕ} {rest : List ℕ} {n : ℕ} (f : Cutting old out line width rest n) where
+  -- a piece is cut off, and a break laid behind it
+  pub turn : first < length rest → length old ≤ most → {next : List ℕ} {m : ℕ}
+      → Lays n (take (cut width rest) rest ++ brk) out next m → Cutting old next line later (drop (cut width rest) rest) m
+  turn h b p =
+      let k = cut width rest in
+      record {
+        wide = omega arith;
+        narrow = omega arith;
+        writing = more f.writing b (take k rest ++ brk) (joined (pieces_of later (drop k rest)))
+            (join_long width rest f.wide h ∙ sym (append_assoc (take k rest) brk (joined (pieces_of later (drop k rest))))) p;
+      }
 
   -- the remainder is one piece
-  pub finish : length line - at ≤ first → {next : List ℕ} {m : ℕ}
-      → Lays n (take (length line - at) (drop at line)) out next m → Lays 0 (repository line) old next m
-  finish h p = end f.writing (from_as (all_left ∙ sym (join_short width (drop at line) (omega (arith, length-drop at line)))) p)
+  pub finish : length rest ≤ first → {next : List ℕ} {m : ℕ} → Lays n rest out next m → Lays 0 (repository line) old next m
+  finish h p = end f.writing (from_as (sym (join_short width rest h)) p)

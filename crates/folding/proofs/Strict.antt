@@ -4,14 +4,14 @@ use mathlib.Core.Bool.{Bool, true, false}
 use mathlib.Core.List.{List, [], ◌∷◌, ◌++◌, append_assoc, flatten}
 use Prim.Native.Nat.{ℕ, ◌+◌, ◌-◌, ◌*◌, ◌≤◌, ◌<◌, zero-le}
 use native.Mathlib.Omega.{arith}
-use lib.ListN.{length, take, drop, length-append, length-take, length-drop, take-append-drop}
-use lib.Seq.{drop-drop, take_all, take-append-add, drop-append-add}
+use lib.ListN.{length, take, drop, length-append, take-append-drop}
+use lib.Seq.{take-append-add, drop-append-add}
 use lib.Dec.{leb}
 use borrow.Author.Tests.{le-leb, leb-true, leb-false}
 use Rattle.octets.specs.Choice.{pick}
 use Rattle.octets.specs.All.{All}
-use Rattle.octets.specs.Laid.{most, counted, Lays}
-use Rattle.octets.proofs.Writing.{Writing, start, more, end, from_as, from_front, counts}
+use Rattle.octets.specs.Laid.{most, Lays}
+use Rattle.octets.proofs.Writing.{Writing, start, more, end, from_as}
 use Rattle.characters.specs.Units.{tails, units, fitting, last_start}
 use Rattle.characters.proofs.Units.{Small, units_front, units_small, units_flatten, by_units, unit_length, unit_small, fitting_most}
 use Rattle.folding.specs.Pieces.{brk}
@@ -137,15 +137,15 @@ unfolding fitting
 starts_some [] left h room = absurd (omega arith)
 starts_some (x ∷ xs) left h room = rw (units_front x xs, le-leb (length (x ∷ take (tails x xs) xs)) left (omega (arith, unit_length x xs, unit_small x xs))) (omega arith)
 
--- ---- the loops end: each turn takes a character, or is followed by one that does, since no character has more than four octets
+-- ---- the loop ends: each turn takes a character, or is followed by one that does, since no character has more than four octets
 
-abbrev pub ahead : ℕ → ℕ → ℕ → ℕ
-ahead size at left = size - at + (4 - left)
+abbrev pub ahead : ℕ → ℕ → ℕ
+ahead size left = size + (4 - left)
 
-pub fewer : (size at left k : ℕ) → left < size - at → k ≤ left → (4 ≤ left → 0 < k) → ahead size (at + k) later < ahead size at left
-fewer size at left k h w m = go (leb 4 left) refl
+pub fewer : (size left k : ℕ) → left < size → k ≤ left → (4 ≤ left → 0 < k) → ahead (size - k) later < ahead size left
+fewer size left k h w m = go (leb 4 left) refl
   where
-    go : (t : Bool) → leb 4 left ≡ t → ahead size (at + k) later < ahead size at left
+    go : (t : Bool) → leb 4 left ≡ t → ahead (size - k) later < ahead size left
     go true t = omega (arith, m (leb-true 4 left t))
     go false t = omega (arith, leb-false 4 left t)
 
@@ -153,73 +153,36 @@ pub same : {c : Column} {n left m : ℕ} → c.left ≡ left → n ≡ m
     → ◌≡◌ {A = Folded} (record { column = c; length = n }) (record { column = record { left = left }; length = m })
 same {c} {n} {left} {m} p q = rw (← p, q)
 
--- ---- at work on a piece: what is laid, and what is to come from `at` on, with so many octets left
+-- ---- at work on a piece: what is laid, and what is left of it to come, with so many octets left
 
-pub record Folding (old out piece : List ℕ) (left₀ left at n : ℕ) : Type 0 where
-  pub inside : at ≤ length piece
-  pub writing : Writing 0 old (folded_units left₀ (units piece)) out (folded_units left (units (drop at piece))) n
-  pub column : left_after left (units (drop at piece)) ≡ left_after left₀ (units piece)
+pub record Folding (old out piece : List ℕ) (left₀ left : ℕ) (rest : List ℕ) (n : ℕ) : Type 0 where
+  pub writing : Writing 0 old (folded_units left₀ (units piece)) out (folded_units left (units rest)) n
+  pub column : left_after left (units rest) ≡ left_after left₀ (units piece)
 
-pub begin : (old piece : List ℕ) (left : ℕ) → Folding old old piece left left 0 0
-begin old piece left = record { inside = omega arith; writing = start 0 old (folded_units left (units piece)); column = refl }
+pub begin : (old piece : List ℕ) (left : ℕ) → Folding old old piece left left piece 0
+begin old piece left = record { writing = start 0 old (folded_units left (units piece)); column = refl }
 
-module _ {old out piece : List ℕ} {left₀ left at n : ℕ} (f : Folding old out piece left₀ left at n) where
-  all_left : take (length piece - at) (drop at piece) ≡ drop at piece
-  all_left = take_all (length piece - at) (drop at piece) (omega (arith, length-drop at piece))
+-- no more than the line takes, and of four octets or more a character
+pub within_line : (left : ℕ) (rest : List ℕ) → last_start left rest ≤ left
+within_line left rest = fitting_most left (units rest)
 
-  -- there is more than the line takes
-  pub longer : left < length piece - at → left < length (take (length piece - at) (drop at piece))
-  longer h = rw all_left (omega (arith, length-drop at piece))
+pub moves : (left : ℕ) (rest : List ℕ) → left < length rest → 4 ≤ left → 0 < last_start left rest
+moves left rest h room = starts_some rest left (omega arith) room
 
-  module _ {k : ℕ} (e : k ≡ last_start left (take (length piece - at) (drop at piece))) where
-    pub within_line : k ≤ left
-    within_line = rw e (fitting_most left (units (take (length piece - at) (drop at piece))))
-
-    -- a line of four octets or more takes a character
-    pub moves : left < length piece - at → 4 ≤ left → 0 < k
-    moves h room = rw (e, all_left) (starts_some (drop at piece) left (omega (arith, length-drop at piece)) room)
-
-    -- a physical line is filled, and a break laid behind it
-    pub turn : left < length piece - at → length old ≤ most → {next : List ℕ} {m : ℕ}
-        → Lays n (take (at + k - at) (drop at piece) ++ brk) out next m → Folding old next piece left₀ later (at + k) m
-    turn h b p =
-        let t : left < length (drop at piece) = omega (arith, length-drop at piece) in
-        let d : drop k (drop at piece) ≡ drop (at + k) piece = drop-drop k at piece in
-        let w : at + k - at ≡ k = omega arith in
-        let i : last_start left (drop at piece) ≡ k = sym (rw all_left at e) in
-        let f' = fills (drop at piece) in
-        record {
-          inside = omega (arith, within_line);
-          writing = more f.writing b (take (at + k - at) (drop at piece) ++ brk) (folded_units later (units (drop (at + k) piece)))
-              (f'.folds left t ∙ rw (w, i, d) (sym (append_assoc (take k (drop at piece)) brk (folded_units later (units (drop (at + k) piece)))))) p;
-          column = sym (f'.leaves left t ∙ rw (i, d)) ∙ f.column;
-        }
+module _ {old out piece : List ℕ} {left₀ left : ℕ} {rest : List ℕ} {n : ℕ} (f : Folding old out piece left₀ left rest n) where
+  -- a physical line is filled, and a break laid behind it
+  pub turn : left < length rest → length old ≤ most → {next : List ℕ} {m : ℕ}
+      → Lays n (take (last_start left rest) rest ++ brk) out next m → Folding old next piece left₀ later (drop (last_start left rest) rest) m
+  turn h b p =
+      let k = last_start left rest in
+      let f' = fills rest in
+      record {
+        writing = more f.writing b (take k rest ++ brk) (folded_units later (units (drop k rest)))
+            (f'.folds left h ∙ sym (append_assoc (take k rest) brk (folded_units later (units (drop k rest))))) p;
+        column = sym (f'.leaves left h) ∙ f.column;
+      }
 
   -- what is left fits
-  pub finish : length piece - at ≤ left → {next : List ℕ} {m : ℕ}
-      → Lays n (take (length piece - at) (drop at piece)) out next m
-      → (left - (length piece - at) ≡ left_after left₀ (units piece)) × Lays 0 (folded_units left₀ (units piece)) old next m
-  finish h p =
-      let l : length (drop at piece) ≡ length piece - at = length-drop at piece in (
-        sym (left_fits left (drop at piece) (omega arith) ∙ rw l) ∙ f.column,
-        end f.writing (from_as (all_left ∙ sym (fold_fits left (drop at piece) (omega arith))) p),
-      )
-
--- ---- the same without a buffer, where a count goes on by as much
-
-module _ {piece : List ℕ} {left₀ left at n : ℕ} (f : Folding [] [] piece left₀ left at n) where
-  pub count_turn : {k : ℕ} → k ≡ last_start left (take (length piece - at) (drop at piece)) → left < length piece - at
-      → {c m : ℕ} → c ≡ counted (n + k) → m ≡ counted (c + 3) → Folding [] [] piece left₀ later (at + k) m
-  count_turn {k} e h {c} {m} p q =
-      let front = take (at + k - at) (drop at piece) in
-      let l : length (front ++ brk) ≡ k + 3 = omega (arith, length-append front brk, length-take (at + k - at) (drop at piece), length-drop at piece, within_line f e) in
-      turn f e h zero-le (counts n (front ++ brk) (rw l (omega (arith, p, q))))
-
-  pub count_finish : length piece - at ≤ left → {m : ℕ} → m ≡ counted (n + (length piece - at))
-      → (left - (length piece - at) ≡ left_after left₀ (units piece)) × (m ≡ counted (length (folded_units left₀ (units piece))))
-  count_finish h {m} p =
-      let rest = take (length piece - at) (drop at piece) in
-      let l : length rest ≡ length piece - at = omega (arith, length-take (length piece - at) (drop at piece), length-drop at piece) in
-      let q : m ≡ counted (n + length rest) = rw l p in
-      let e = finish f h (counts n rest q) in
-      (e.0, from_front e.1)
+  pub finish : length rest ≤ left → {next : List ℕ} {m : ℕ} → Lays n rest out next m
+      → (left - length rest ≡ left_after left₀ (units piece)) × Lays 0 (folded_units left₀ (units piece)) old next m
+  finish h p = (sym (left_fits left rest h) ∙ f.column, end f.writing (from_as (sym (fold_fits left rest h)) p))

@@ -1,6 +1,6 @@
 -- What a fold answers, and what the buffer holds then, whichever fold it is (document 01, "What each number returns and leaves"; document 02, request 4).
 -- Assumes nothing.
-use Rattle.std.specs.Prelude.{ℕ, Bool, ◌&&◌, List, length, eqb, leb}
+use Rattle.std.specs.Prelude.{ℕ, Bool, ◌&&◌, Result, Ok, Err, ⊤, List, length, eqb, leb}
 use Rattle.octets.specs.Choice.{pick}
 use Rattle.octets.specs.Bytes.{lf, other, ascii}
 use Rattle.octets.specs.Runs.{run, only}
@@ -18,6 +18,10 @@ byte_answer number sound line =
     pick (only (other lf) line)
     (pick (leb (length line) sound) (output done 0 0) (output number sound 0))
     (output has_break (run (other lf) line) 0)
+
+-- what a check gives of an answer: nothing where it is Done, and else the refusal
+abbrev pub passed : Output → Result ⊤ Output
+passed told = pick (eqb told.answer done) (Ok tt) (Err told)
 
 -- what refuses a line before it is folded, in the order of document 01: its length, and then its bytes
 abbrev pub line_answer : ℕ → ℕ → List ℕ → Output

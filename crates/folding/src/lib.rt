@@ -3,15 +3,13 @@
 #![tactic(auto)]
 
 ghost use Rattle.std.specs.Prelude.{◌≡◌, ◌+◌, ◌<◌, ◌≤◌, length, ◌++◌};
-ghost use Rattle.octets.specs.Laid.{laid, counted, Lays};
-ghost use Rattle.octets.specs.Answers.{output};
+ghost use Rattle.octets.specs.Laid.{laid, Lays};
 ghost use Rattle.octets.specs.Runs.{run, only};
-ghost use Rattle.octets.specs.Bytes.{ascii};
 ghost use Rattle.characters.specs.Units.{units};
 ghost use Rattle.folding.specs.Pieces.{brk};
 ghost use Rattle.folding.specs.Strict.{folded_units, folded_piece, strict};
 ghost use Rattle.folding.specs.Repository.{cut, repository};
-ghost use Rattle.folding.specs.Answers.{foldable, byte_answer, strict_line, repository_line, fold_answer, fold_out};
+ghost use Rattle.folding.specs.Answers.{foldable, byte_answer, passed, strict_line, repository_line, fold_answer, fold_out};
 
 use octets::Output;
 
@@ -42,10 +40,7 @@ pub struct Folded {
     pub length: usize,
 }
 
-// The octets between two physical lines.
-const BREAK: usize = 3;
-
-// Lays them: CRLF and a space.
+// Lays what stands between two physical lines, CRLF and a space, byte by byte: for three of them that is quicker than as one piece.
 fn lay_break(out: &mut [u8], at: usize) -> usize
     ensures { Lays at brk out.old out.new result }
 {
@@ -68,38 +63,26 @@ pub fn fold_piece(column: Column, piece: &[u8], out: &mut [u8]) -> Folded
     ensures out_after { out.new ≡ laid (folded_units column.left (units piece.now)) out.old }
 {
     let mut left = column.left;
-    let mut at: usize = 0;
-    let mut length: usize = 0;
-    while left < piece.len() - at {
-        let next = at + characters::start_within(&piece[at..], left);
-        length = lay_line(&piece[at..next], out, length);
-        at = next;
+    let mut rest = piece;
+    let mut length = 0;
+    while left < rest.len() {
+        let (line, more) = rest.split_at(characters::start_within(rest, left));
+        length = lay_line(line, out, length);
+        rest = more;
         left = Column::LATER;
     }
-    length = octets::lay(&piece[at..], out, length);
+    length = octets::lay(rest, out, length);
     Folded {
-        column: Column::new(left - (piece.len() - at)),
+        column: Column::new(left - rest.len()),
         length,
     }
 }
 
-// Counts a piece as `fold_piece` lays it, without a buffer.
+// Counts a piece as `fold_piece` lays it: over no buffer.
 pub fn count_piece(column: Column, piece: &[u8]) -> Folded
     ensures { result ≡ folded_piece column.left piece.now }
 {
-    let mut left = column.left;
-    let mut at: usize = 0;
-    let mut length: usize = 0;
-    while left < piece.len() - at {
-        let taken = characters::start_within(&piece[at..], left);
-        length = octets::count_on(octets::count_on(length, taken), BREAK);
-        at += taken;
-        left = Column::LATER;
-    }
-    Folded {
-        column: Column::new(left - (piece.len() - at)),
-        length: octets::count_on(length, piece.len() - at),
-    }
+    fold_piece(column, piece, &mut [])
 }
 
 // How far on the repository cuts: at the width, or a byte before it where the byte there is white.
@@ -107,13 +90,10 @@ fn cut_at(width: usize, rest: &[u8]) -> usize
     requires { (0 < width) × (width < length rest.now) }
     ensures { result ≡ cut width rest.now }
 {
-    let before = width - 1;
-    let b = rest[width];
-    let white = ((9 <= b) & (b <= 13)) | (b == b' ');
-    if white {
-        return before;
+    match rest[width] {
+        9..=13 | b' ' => width - 1,
+        _ => width,
     }
-    width
 }
 
 // Folds a line as the repository does, over the front of the buffer.
@@ -121,15 +101,15 @@ fn fold_repository(line: &[u8], out: &mut [u8]) -> usize
     ensures { Lays 0 (repository line.now) out.old out.new result }
 {
     let mut width = Column::FIRST;
-    let mut at: usize = 0;
-    let mut length: usize = 0;
-    while Column::FIRST < line.len() - at {
-        let next = at + cut_at(width, &line[at..]);
-        length = lay_line(&line[at..next], out, length);
-        at = next;
+    let mut rest = line;
+    let mut length = 0;
+    while Column::FIRST < rest.len() {
+        let (piece, more) = rest.split_at(cut_at(width, rest));
+        length = lay_line(piece, out, length);
+        rest = more;
         width = Column::LATER;
     }
-    octets::lay(&line[at..], out, length)
+    octets::lay(rest, out, length)
 }
 
 // Whether no byte is an LF and every byte is below 128. The loop has no branch, so that it becomes vector code.
@@ -137,11 +117,8 @@ fn all_foldable(line: &[u8]) -> bool
     ensures { result ≡ only foldable line.now }
 {
     let mut fine = true;
-    let mut i: usize = 0;
-    while i < line.len() {
-        let b = line[i];
-        fine = fine & (!(b == b'\n') & (b <= 127));
-        i += 1;
+    for b in line {
+        fine &= (*b != b'\n') & b.is_ascii();
     }
     fine
 }
@@ -153,84 +130,60 @@ const BLOCK: usize = 65_536;
 fn foldable_front(line: &[u8]) -> usize
     ensures { result ≤ run foldable line.now }
 {
-    let mut i: usize = 0;
-    while i < line.len() {
-        let next = i + octets::least(line.len() - i, BLOCK);
-        if !all_foldable(&line[i..next]) {
-            return i;
+    let mut seen = 0;
+    for block in line.chunks(BLOCK) {
+        if !all_foldable(block) {
+            return seen;
         }
-        i = next;
+        seen += block.len();
     }
-    i
-}
-
-// How many bytes stand before the first of 128 or more.
-fn ascii_run(line: &[u8]) -> usize
-    ensures { result ≡ run ascii line.now }
-{
-    let mut i: usize = 0;
-    while i < line.len() {
-        if line[i] > 127 {
-            return i;
-        }
-        i += 1;
-    }
-    i
-}
-
-// Refuses at a place.
-fn refuse(answer: u32, place: usize) -> Output
-    ensures { result ≡ output answer place 0 }
-{
-    Output {
-        answer,
-        place,
-        length: 0,
-    }
+    seen
 }
 
 // What refuses a line for its bytes: an LF, or a byte that the fold does not take, of which `sound` stand in front.
-fn check_bytes(line: &[u8], number: u32, sound: usize) -> Output
-    ensures { result ≡ byte_answer number sound line.now }
+fn check_bytes(line: &[u8], number: u32, sound: usize) -> Result<(), Output>
+    requires { 0 < number }
+    ensures { result ≡ passed (byte_answer number sound line.now) }
 {
     let end = octets::find_near(line, 0, b'\n');
     if end < line.len() {
-        return refuse(octets::HAS_BREAK, end);
+        return Err(Output::refusal(octets::HAS_BREAK, end));
     }
     if sound < line.len() {
-        return refuse(number, sound);
+        return Err(Output::refusal(number, sound));
     }
-    refuse(octets::DONE, 0)
+    Ok(())
 }
 
-// What refuses a line in the strict fold, or Done. What is wrong is looked for only where something may be.
-fn check_strict(line: &[u8]) -> Output
-    ensures { result ≡ strict_line line.now }
+// What refuses a line in the strict fold. What is wrong is looked for only where something may be.
+fn check_strict(line: &[u8]) -> Result<(), Output>
+    ensures { result ≡ passed (strict_line line.now) }
 {
     if line.len() > octets::LONGEST {
-        return refuse(octets::TOO_LONG, 0);
+        return Err(Output::refusal(octets::TOO_LONG, 0));
     }
     let front = foldable_front(line);
     if line.len() <= front {
-        return refuse(octets::DONE, 0);
+        return Ok(());
     }
     if characters::is_common_text(&line[front..]) {
-        return refuse(octets::DONE, 0);
+        return Ok(());
     }
     check_bytes(line, octets::NOT_UTF8, characters::utf8_run(line))
 }
 
 // The same in the repository's.
-fn check_repository(line: &[u8]) -> Output
-    ensures { result ≡ repository_line line.now }
+fn check_repository(line: &[u8]) -> Result<(), Output>
+    ensures { result ≡ passed (repository_line line.now) }
 {
     if octets::LONGEST < line.len() {
-        return refuse(octets::TOO_LONG, 0);
+        return Err(Output::refusal(octets::TOO_LONG, 0));
     }
     if all_foldable(line) {
-        return refuse(octets::DONE, 0);
+        return Ok(());
     }
-    check_bytes(line, octets::NOT_ASCII, ascii_run(line))
+    let sound = octets::run_while(line, |b| b.is_ascii());
+    check_bytes(line, octets::NOT_ASCII, sound)
 }
 
 // The strict fold of a line, counted first and then written: a refusal changes nothing.
@@ -238,17 +191,15 @@ pub fn fold_strict(line: &[u8], out: &mut [u8]) -> Output
     ensures { (result ≡ fold_answer strict_line strict line.now (length out.old))
         × (out.new ≡ fold_out strict_line strict line.now out.old) }
 {
-    let checked = check_strict(line);
-    if checked.answer != octets::DONE {
-        return checked;
+    if let Err(refusal) = check_strict(line) {
+        return refusal;
     }
     let first = Column::new(Column::FIRST);
-    let answer = octets::room_for(count_piece(first, line).length, out.len());
-    if answer.answer != octets::DONE {
-        return answer;
+    let told = octets::room_for(count_piece(first, line).length, out.len());
+    if told.is_done() {
+        fold_piece(first, line, out);
     }
-    fold_piece(first, line, out);
-    answer
+    told
 }
 
 // The repository's fold of a line, in the same way.
@@ -256,16 +207,13 @@ pub fn fold_line(line: &[u8], out: &mut [u8]) -> Output
     ensures { (result ≡ fold_answer repository_line repository line.now (length out.old))
         × (out.new ≡ fold_out repository_line repository line.now out.old) }
 {
-    let checked = check_repository(line);
-    if checked.answer != octets::DONE {
-        return checked;
+    if let Err(refusal) = check_repository(line) {
+        return refusal;
     }
-    let mut none = [0u8; 0];
-    let needed = fold_repository(line, &mut none);
-    let answer = octets::room_for(needed, out.len());
-    if answer.answer != octets::DONE {
-        return answer;
+    let needed = fold_repository(line, &mut []);
+    let told = octets::room_for(needed, out.len());
+    if told.is_done() {
+        fold_repository(line, out);
     }
-    fold_repository(line, out);
-    answer
+    told
 }

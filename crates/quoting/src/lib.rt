@@ -14,11 +14,8 @@ fn all_plain(value: &[u8]) -> bool
     ensures { result ≡ only plain value.now }
 {
     let mut fine = true;
-    let mut i: usize = 0;
-    while i < value.len() {
-        let b = value[i];
-        fine = fine & !((b == b':') | ((b == b';') | (b == b',')));
-        i += 1;
+    for b in value {
+        fine &= (*b != b':') & (*b != b';') & (*b != b',');
     }
     fine
 }
@@ -27,11 +24,7 @@ fn all_plain(value: &[u8]) -> bool
 fn in_quotes(value: &[u8]) -> bool
     ensures { result ≡ enclosed value.now }
 {
-    if value.len() == 0 {
-        return false;
-    }
-    let last = value.len() - 1;
-    (value[0] == b'"') & (value[last] == b'"')
+    matches!(value, [b'"'] | [b'"', .., b'"'])
 }
 
 // Whether the value is written in quotes of the writer's own.
@@ -58,18 +51,12 @@ pub fn quote_special_chars(value: &[u8], out: &mut [u8]) -> Output
     ensures { (result ≡ quote_answer value.now (length out.old)) × (out.new ≡ quote_out value.now out.old) }
 {
     if value.len() > octets::LONGEST {
-        return Output {
-            answer: octets::TOO_LONG,
-            place: 0,
-            length: 0,
-        };
+        return Output::refusal(octets::TOO_LONG, 0);
     }
-    let mut none = [0u8; 0];
-    let needed = lay_quoted(value, &mut none);
-    let answer = octets::room_for(needed, out.len());
-    if answer.answer != octets::DONE {
-        return answer;
+    let needed = lay_quoted(value, &mut []);
+    let told = octets::room_for(needed, out.len());
+    if told.is_done() {
+        lay_quoted(value, out);
     }
-    lay_quoted(value, out);
-    answer
+    told
 }
