@@ -93,7 +93,8 @@ pub struct Runs<'a> {
 impl Runs<'_> {
     // How many rows at the front of both are the same one by one: the runs are as alike as what is behind them.
     pub fn agreeing_front(&self) -> usize
-        ensures { result ≡ agreeing_front self.now.text.now self.now.parameters.now self.now.a self.now.b self.now.count }
+        ensures within { result ≤ self.now.count }
+        ensures value { result ≡ agreeing_front self.now.text.now self.now.parameters.now self.now.a self.now.b self.now.count }
     {
         for i in 0..self.count {
             if !same_rows(self.text, self.parameters, self.a + i, self.b + i) {
@@ -105,7 +106,8 @@ impl Runs<'_> {
 
     // How many rows are left of both without those at the end that are the same one by one.
     pub fn without_agreeing_back(&self) -> usize
-        ensures { result ≡ without_agreeing_back self.now.text.now self.now.parameters.now self.now.a self.now.b self.now.count }
+        ensures within { result ≤ self.now.count }
+        ensures value { result ≡ without_agreeing_back self.now.text.now self.now.parameters.now self.now.a self.now.b self.now.count }
     {
         // What is left is the answer, so it is counted down: a range taken from its end would be no plainer.
         let mut left = self.count;

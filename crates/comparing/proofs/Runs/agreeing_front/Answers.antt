@@ -3,8 +3,8 @@ use Rattle.std.proofs.Common.{sym, ◌∙◌, arith}
 use Rattle.comparing.proofs.Ends.{front_on, front_over}
 use Rattle.comparing.proofs.Runs.agreeing_front.Goals as goal
 
-pub returns-then-not-same_rows : goal.returns-then-not-same_rows
-returns-then-not-same_rows c =
+pub returns-then-not-same_rows-clause-value : goal.returns-then-not-same_rows-clause-value
+returns-then-not-same_rows-clause-value c =
     let s = c.args.self.now in
     omega (
       arith,
@@ -21,7 +21,7 @@ loop-i-preserved c =
       front_on s.text.now s.parameters.now s.a s.b s.count c.loop-i.i (omega arith) (sym c.same_rows.ensures ∙ c.if-not-same_rows.false),
     )
 
-pub returns : goal.returns
-returns c =
+pub returns-clause-value : goal.returns-clause-value
+returns-clause-value c =
     let s = c.args.self.now in
     omega (arith, c.loop-i.invariant, front_over s.text.now s.parameters.now s.a s.b s.count c.loop-i.i (omega arith))

@@ -11,13 +11,13 @@ loop-left-preserved c =
           ∙ c.loop-left.invariant.1,
     )
 
-pub returns-else-same_rows : goal.returns-else-same_rows
-returns-else-same_rows c =
+pub returns-else-same_rows-clause-value : goal.returns-else-same_rows-clause-value
+returns-else-same_rows-clause-value c =
     let s = c.args.self.now in
     sym (back_on s.text.now s.parameters.now s.a s.b c.loop-left.left c.loop-left-test.true (sym c.same_rows.ensures ∙ c.if-same_rows.false))
     ∙ c.loop-left.invariant.1
 
-pub returns-after-loop-left : goal.returns-after-loop-left
-returns-after-loop-left c =
+pub returns-after-loop-left-clause-value : goal.returns-after-loop-left-clause-value
+returns-after-loop-left-clause-value c =
     let s = c.args.self.now in
     sym (back_over s.text.now s.parameters.now s.a s.b c.loop-left.left c.loop-left-test.false) ∙ c.loop-left.invariant.1
