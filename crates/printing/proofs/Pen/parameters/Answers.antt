@@ -1,0 +1,21 @@
+-- `printing::Pen::parameters`: the row is the property's own, and laid.
+use native.Mathlib.Omega.{arith}
+use mathlib.Core.Path.{ap}
+use Rattle.tables.specs.Trees.{parameter_of}
+use Rattle.tables.specs.declared.ParameterRow.{ParameterRow}
+use Rattle.printing.specs.Lines.{parameter_text}
+use Rattle.printing.proofs.Pens.{inside, turn, listed, piece_as}
+use Rattle.printing.proofs.Pen.parameters.Goals as goal
+
+pub parameter_at-p-requires : goal.parameter_at-p-requires
+parameter_at-p-requires c =
+    let l = c.args.line.now in
+    inside l.parameters.now l.number l.first c.loop-row.invariant.along (omega arith)
+
+pub loop-row-preserved : goal.loop-row-preserved
+loop-row-preserved c =
+    turn c.loop-row.invariant (omega arith) (omega arith)
+    (piece_as (ap (λ (p : ParameterRow). parameter_text (parameter_of c.args.line.now.text.now p)) c.parameter_at-p.ensures) c.parameter-pen.ensures)
+
+pub returns : goal.returns
+returns c = listed c.loop-row.invariant (omega arith)
