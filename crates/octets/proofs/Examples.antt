@@ -12,7 +12,7 @@ use Rattle.octets.specs.Keys.{key_of}
 use Rattle.octets.specs.Views.{viewed, viewed_at}
 use Rattle.octets.specs.Answers as answers
 use Rattle.octets.specs.Answers.{output, room_answer, out_after}
-use Rattle.octets.specs.declared.Key.TheVariants.{Reserved, Run}
+use Rattle.std.specs.Prelude.{Some, None}
 
 -- "No. | Name": the sixteen names in the order of the table, each with its number; "16 BadEscape" (document 02, request 1);
 -- "7 then means empty key", "17 ReservedKey", "18 StrayByte" (request 2);
@@ -48,7 +48,7 @@ key_bytes = refl
 
 -- "refused if the line starts with BEGIN or END in any case and then has `:`, `;` or its end. Otherwise it is the longest run of key bytes."
 keys : map key_of (bytes "K:v" ∷ bytes "azAZ09.,/_-;" ∷ bytes " K" ∷ bytes "BEGIN" ∷ bytes "bEgIn;X" ∷ bytes "End:" ∷ bytes "BEGINNING" ∷ bytes "END X" ∷ [])
-    ≡ Run 1 ∷ Run 11 ∷ Run 0 ∷ Reserved ∷ Reserved ∷ Reserved ∷ Run 9 ∷ Run 3 ∷ []
+    ≡ Some 1 ∷ Some 11 ∷ Some 0 ∷ None ∷ None ∷ None ∷ Some 9 ∷ Some 3 ∷ []
 unfolding bytes run starts_word
 keys = refl
 

@@ -11,21 +11,21 @@ use Rattle.octets.specs.Bytes.{key_byte, between, lowered}
 use Rattle.octets.specs.Runs.{run}
 use Rattle.octets.specs.Words.{starts_word, begin_word, end_word}
 use Rattle.octets.specs.Keys.{opens_reserved, reserved, key_of}
-use Rattle.octets.specs.declared.Key.TheVariants.{Reserved, Run}
+use Rattle.std.specs.Prelude.{Some, None}
 
-pub refused : (line : List ℕ) → reserved line ≡ true → key_of line ≡ Reserved
-refused line e = ap (λ (t : Bool). pick t Reserved (Run (run key_byte line))) e
+pub refused : (line : List ℕ) → reserved line ≡ true → key_of line ≡ None
+refused line e = ap (λ (t : Bool). pick t None (Some (run key_byte line))) e
 
-pub taken : (line : List ℕ) → reserved line ≡ false → key_of line ≡ Run (run key_byte line)
-taken line e = ap (λ (t : Bool). pick t Reserved (Run (run key_byte line))) e
+pub taken : (line : List ℕ) → reserved line ≡ false → key_of line ≡ Some (run key_byte line)
+taken line e = ap (λ (t : Bool). pick t None (Some (run key_byte line))) e
 
 -- the key that is taken is the run of key bytes
-pub run_of : (line : List ℕ) (n : ℕ) → key_of line ≡ Run n → n ≡ run key_byte line
+pub run_of : (line : List ℕ) (n : ℕ) → key_of line ≡ Some n → n ≡ run key_byte line
 run_of line n e = go (reserved line) refl
   where
     go : (t : Bool) → reserved line ≡ t → n ≡ run key_byte line
-    go true p = let q : Reserved ≡ Run n = sym (refused line p) ∙ e in cc
-    go false p = let q : Run (run key_byte line) ≡ Run n = sym (taken line p) ∙ e in cc
+    go true p = let q : None ≡ Some n = sym (refused line p) ∙ e in cc
+    go false p = let q : Some (run key_byte line) ≡ Some n = sym (taken line p) ∙ e in cc
 
 -- a word whose first letter, small or capital, begins BEGIN or END stands at the front of no line that begins otherwise
 pub no_word : (word line : List ℕ) → opens_reserved (lowered (get_or word 0 0)) ≡ true → opens_reserved (lowered (get_or word 0 0) - 32) ≡ true

@@ -1,10 +1,10 @@
 // Bytes: their classes, keys, equal parts, words in any case, views, and the numbers that every answer is made of.
 #![tactic(auto)]
 
-ghost use Rattle.std.specs.Prelude.{◌≡◌, false, ◌∷◌, [], ◌++◌, ◌+◌, ◌≤◌, min, length, get_or, take, drop, eqb, leb, ltb};
+ghost use Rattle.std.specs.Prelude.{◌≡◌, ℕ, Bool, ◌<◌, false, ◌∷◌, [], ◌++◌, ◌+◌, ◌≤◌, min, length, get_or, take, drop, eqb, leb, ltb};
 ghost use Rattle.octets.specs.Bytes.{key_byte, lowered, other};
 ghost use Rattle.octets.specs.Laid.{laid, counted, Lays};
-ghost use Rattle.octets.specs.Answers.{room_answer};
+ghost use Rattle.octets.specs.Answers.{done, output, room_answer};
 ghost use Rattle.octets.specs.Runs.{run};
 ghost use Rattle.octets.specs.Numbers.{marks, eight};
 ghost use Rattle.octets.specs.Classes.{member};
@@ -67,18 +67,42 @@ pub struct Output {
     pub length: usize,
 }
 
+impl Output {
+    // A refusal, at the place that it names.
+    pub fn refusal(answer: u32, place: usize) -> Output
+        ensures { result ≡ output answer place 0 }
+    {
+        Output {
+            answer,
+            place,
+            length: 0,
+        }
+    }
+
+    // Done, with so many bytes.
+    pub fn done(length: usize) -> Output
+        ensures { result ≡ output done 0 length }
+    {
+        Output {
+            answer: DONE,
+            place: 0,
+            length,
+        }
+    }
+
+    // Whether it is Done, and no refusal.
+    pub fn is_done(self) -> bool
+        ensures { result ≡ eqb self.answer done }
+    {
+        self.answer == DONE
+    }
+}
+
 // A part of a line or of a text.
 #[derive(Clone, Copy)]
 pub struct Span {
     pub start: usize,
     pub len: usize,
-}
-
-// The key at the front of a line: refused, or as many bytes.
-#[derive(Clone, Copy)]
-pub enum Key {
-    Reserved,
-    Run(usize),
 }
 
 // Passes over capital letters at the front, eight bytes at a time: most keys are made of them.
@@ -110,18 +134,26 @@ fn is_key_byte(b: u8) -> bool
     capital | (small | (digit | mark))
 }
 
+// The length of the longest run of bytes of a class at the front. The closure tells which bytes are of the class.
+pub fn run_while<F: Fn(u8) -> bool>(a: &[u8], is_in: F) -> usize
+    requires { F.IsAlwaysCallable is_in }
+    ensures inside { result ≤ length a.now }
+    ensures longest { (class : ℕ → Bool) → ((x : ℕ) (b : Bool) → x < 256 → F.post is_in x b → b ≡ class x) → result ≡ run class a.now }
+{
+    for (i, x) in a.iter().enumerate() {
+        if !is_in(*x) {
+            return i;
+        }
+    }
+    a.len()
+}
+
 // The length of the longest run of key bytes at the front.
 pub fn key_run(line: &[u8]) -> usize
     ensures { result ≡ run key_byte line.now }
 {
-    let mut i = skip_capitals(line);
-    while i < line.len() {
-        if !is_key_byte(line[i]) {
-            return i;
-        }
-        i += 1;
-    }
-    i
+    let n = skip_capitals(line);
+    n + run_while(&line[n..], is_key_byte)
 }
 
 // A class of bytes that eight are asked for at once.
@@ -333,11 +365,7 @@ pub fn room_for(needed: usize, room: usize) -> Output
             length: needed,
         };
     }
-    Output {
-        answer: DONE,
-        place: 0,
-        length: needed,
-    }
+    Output::done(needed)
 }
 
 // How many bytes at the front of two texts of one length are seen to be the same, eight at a time. It stops at the first eight
@@ -474,14 +502,14 @@ pub fn is_reserved(line: &[u8]) -> bool
     stands_alone(b"BEGIN", line) | stands_alone(b"END", line)
 }
 
-// The key at the front of a line.
-pub fn property_key(line: &[u8]) -> Key
+// How many bytes the key at the front of a line has. BEGIN and END are no key of a property.
+pub fn property_key(line: &[u8]) -> Option<usize>
     ensures { result ≡ key_of line.now }
 {
     if is_reserved(line) {
-        return Key::Reserved;
+        return None;
     }
-    Key::Run(key_run(line))
+    Some(key_run(line))
 }
 
 // The part of a text, or the empty part at its front where start and len reach outside.
