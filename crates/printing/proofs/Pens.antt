@@ -8,26 +8,25 @@ use native.Mathlib.Omega.{arith}
 use lib.ListN.{length, get_or, drop, length-drop}
 use lib.Seq.{drop-cons, drop-drop, take-add}
 use borrow.Author.Tests.{eq-eqb, ne_eqb, le-leb, eqb-true}
-use Rattle.octets.specs.Laid.{most, counted, Lays}
+use Rattle.octets.specs.Laid.{most, Lays}
 use Rattle.octets.specs.Bytes.{cr, lf, quote, colon, semicolon, equals, ascii}
 use Rattle.octets.specs.Runs.{run, only}
 use Rattle.octets.specs.Words.{begin_word, end_word}
 use Rattle.octets.specs.Views.{viewed}
 use Rattle.octets.proofs.Runs.{no_run}
-use Rattle.octets.proofs.Writing.{length_from, both, from_as, from_front, counts, stays}
+use Rattle.octets.proofs.Writing.{length_from, both, from_as, stays}
 use Rattle.characters.specs.Units.{tail, units_from, units}
 use Rattle.characters.proofs.Units.{ascii_alone, before_start, behind_ascii}
 use Rattle.folding.specs.Strict.{first, folded_units, left_after}
 use Rattle.folding.proofs.Strict.{fold_append, left_append, fold_fits, left_fits}
 use Rattle.tables.specs.Rows.{parameter_size, parameter_at}
 use Rattle.tables.specs.Trees.{Parameter, present, parameter_of}
-use Rattle.tables.specs.Fronts.{front, belongs, own_parameters, own_property}
+use Rattle.tables.specs.Fronts.{belongs, own_parameters}
 use Rattle.tables.specs.Lent.{parameters_in}
-use Rattle.tables.specs.declared.PropertyRow.{PropertyRow}
 use Rattle.tables.specs.declared.ParameterRow.{ParameterRow}
 use Rattle.tables.proofs.Laws.{row_here, rows_end, length_rows}
 use Rattle.tables.proofs.Fronts.{on, stop, ended, run_on, run_none, within, each}
-use Rattle.printing.specs.Lines.{closed_line, value_text, parameter_text, parameters_text, property_line}
+use Rattle.printing.specs.Lines.{closed_line, value_text, parameter_text, parameters_text}
 use Rattle.printing.specs.Pens.{Penned, behind_run, behind, key_of, value_of, own_of, line_of}
 use Rattle.printing.specs.declared.Pen.{Pen}
 use Rattle.printing.specs.declared.Line.{Line}
@@ -100,7 +99,7 @@ parts l = append_assoc (key_of l) (parameters_text (own_of l)) (colon ∷ value_
 pub bare : (l : Line) {line : List ℕ} → l.first ≡ behind l → line ≡ key_of l ++ colon ∷ value_of l → line ≡ line_of l
 unfolding parameters_text
 bare l none e =
-    let rows = drop l.first (parameters_in l.parameters.now) in
+    let rows = drop l.first (parameters_in l.tables.now.parameters.now) in
     e ∙ rw (run_none (belongs l.number) rows (omega arith))
 
 -- two parts of a text that stand one behind the other, with a byte between them, are one part
@@ -195,13 +194,13 @@ module _ (table : List ℕ) (number first : ℕ) where
 -- ---- the parameters of a property: those before `row` are laid, and laying the others lays them all
 
 abbrev own_text : Line → ℕ → List ℕ
-own_text l row = parameters_text (own_parameters l.text.now l.number row (parameters_in l.parameters.now))
+own_text l row = parameters_text (own_parameters l.tables.now.text.now l.number row (parameters_in l.tables.now.parameters.now))
 
 pub record Listing (l : Line) (start : Pen) (old out : List ℕ) (pen : Pen) (row : ℕ) : Type 0 where
   pub rest : {new : List ℕ} {end : Pen} → Penned pen (own_text l row) out new end → Penned start (own_text l l.first) old new end
   pub same : length out ≡ length old
   pub room : pen.at ≤ most
-  pub along : Within l.parameters.now l.number l.first row
+  pub along : Within l.tables.now.parameters.now l.number l.first row
 
 pub begin : (l : Line) (pen : Pen) (old : List ℕ) → pen.at ≤ most → Listing l pen old old pen l.first
 begin l pen old h = record { rest = λ p. p; same = refl; room = h; along = refl }
@@ -209,10 +208,10 @@ begin l pen old h = record { rest = λ p. p; same = refl; room = h; along = refl
 module _ {l : Line} {start : Pen} {old out : List ℕ} {pen : Pen} {row : ℕ} (s : Listing l start old out pen row) where
   -- the row is laid
   pub turn : row < behind l → length old ≤ most
-      → {new : List ℕ} {end : Pen} → Penned pen (parameter_text (parameter_of l.text.now (parameter_at l.parameters.now row))) out new end → Listing l start old new end (row + 1)
+      → {new : List ℕ} {end : Pen} → Penned pen (parameter_text (parameter_of l.tables.now.text.now (parameter_at l.tables.now.parameters.now row))) out new end → Listing l start old new end (row + 1)
   unfolding parameters_text
   turn h k {new} {end} laid =
-      let table = l.parameters.now in
+      let table = l.tables.now.parameters.now in
       let rows = parameters_in table in
       let p = parameter_at table row in
       let there = inside table l.number l.first s.along h in
@@ -220,8 +219,8 @@ module _ {l : Line} {start : Pen} {old out : List ℕ} {pen : Pen} {row : ℕ} (
       let here = row_here parameter_size parameter_at table row there in
       let own_text_holds = run_on (belongs l.number) (drop row rows) (drop (row + 1) rows) p here (eq-eqb p.property l.number its) in
       record {
-        rest = λ q. s.rest (rw own_text_holds (before_mark laid q (omega (arith, s.same)) (marked (own_parameters l.text.now l.number (row + 1) rows))));
-        same = rw laid.lays.is (length_from pen.at (folded_units pen.left (units (parameter_text (parameter_of l.text.now p)))) out ∙ s.same);
+        rest = λ q. s.rest (rw own_text_holds (before_mark laid q (omega (arith, s.same)) (marked (own_parameters l.tables.now.text.now l.number (row + 1) rows))));
+        same = rw laid.lays.is (length_from pen.at (folded_units pen.left (units (parameter_text (parameter_of l.tables.now.text.now p)))) out ∙ s.same);
         room = omega (arith, laid.lays.count);
         along = one_more table l.number l.first s.along there its;
       }
@@ -230,5 +229,5 @@ module _ {l : Line} {start : Pen} {old out : List ℕ} {pen : Pen} {row : ℕ} (
   pub listed : behind l ≤ row → Penned start (parameters_text (own_of l)) old out pen
   unfolding parameters_text
   listed h =
-      let rows = drop row (parameters_in l.parameters.now) in
+      let rows = drop row (parameters_in l.tables.now.parameters.now) in
       s.rest (rw (run_none (belongs l.number) rows (omega (arith, s.along))) (nothing pen out s.room))

@@ -23,18 +23,18 @@ abbrev pub behind_run : ℕ → ℕ → List ParameterRow → ℕ
 behind_run property first rows = first + front (belongs property) (drop first rows)
 
 abbrev pub behind : Line → ℕ
-behind l = behind_run l.number l.first (parameters_in l.parameters.now)
+behind l = behind_run l.number l.first (parameters_in l.tables.now.parameters.now)
 
 -- a property's key, its value, and the parameters of the run
 abbrev pub key_of : Line → List ℕ
-key_of l = viewed l.text.now l.row.key_start l.row.key_len
+key_of l = viewed l.tables.now.text.now l.row.key_start l.row.key_len
 
 abbrev pub value_of : Line → List ℕ
-value_of l = viewed l.text.now l.row.value_start l.row.value_len
+value_of l = viewed l.tables.now.text.now l.row.value_start l.row.value_len
 
 abbrev pub own_of : Line → List Parameter
-own_of l = own_parameters l.text.now l.number l.first (parameters_in l.parameters.now)
+own_of l = own_parameters l.tables.now.text.now l.number l.first (parameters_in l.tables.now.parameters.now)
 
 -- its line, before it is folded
 abbrev pub line_of : Line → List ℕ
-line_of l = property_line (own_property l.text.now l.row l.number l.first (parameters_in l.parameters.now))
+line_of l = property_line (own_property l.tables.now.text.now l.row l.number l.first (parameters_in l.tables.now.parameters.now))

@@ -11,7 +11,7 @@ ghost use Rattle.printing.specs.Lines.{closed_line, value_text, parameter_text, 
 ghost use Rattle.printing.specs.Pens.{Penned, key_of, value_of, own_of, behind, line_of};
 
 use folding::Column;
-use tables::{ParameterRow, PropertyRow};
+use tables::{ParameterRow, PropertyRow, Tables};
 
 // Where a line that is laid piece by piece goes on: the octets that its physical line still takes, and the place in the buffer.
 #[derive(Clone, Copy)]
@@ -100,8 +100,8 @@ impl Pen {
     {
         let mut pen = self;
         for row in line.first..next {
-            let p = tables::parameter_at(line.parameters, row);
-            pen = pen.parameter(line.text, p, out);
+            let p = tables::parameter_at(line.tables.parameters, row);
+            pen = pen.parameter(line.tables.text, p, out);
         }
         pen
     }
@@ -125,13 +125,12 @@ pub fn print_mark(mark: &[u8], name: &[u8], out: &mut [u8]) -> usize
     end.close(out)
 }
 
-// A property to be laid: the text, its row and the number of that, the parameter rows, and the first of them that may be its own.
+// A property to be laid: the tables, its row and the number of that, and the first parameter row that may be its own.
 #[derive(Clone, Copy)]
 pub struct Line<'a> {
-    pub text: &'a [u8],
+    pub tables: &'a Tables<'a>,
     pub row: PropertyRow,
     pub number: usize,
-    pub parameters: &'a [u32],
     pub first: usize,
 }
 
@@ -147,23 +146,27 @@ impl<'a> Line<'a> {
         ensures { result.now ≡ key_of self.now }
     {
         let p = self.row;
-        octets::view(self.text, p.key_start as usize, p.key_len as usize)
+        octets::view(self.tables.text, p.key_start as usize, p.key_len as usize)
     }
 
     fn value(&self) -> &'a [u8]
         ensures { result.now ≡ value_of self.now }
     {
         let p = self.row;
-        octets::view(self.text, p.value_start as usize, p.value_len as usize)
+        octets::view(
+            self.tables.text,
+            p.value_start as usize,
+            p.value_len as usize,
+        )
     }
 
     // The row behind its parameters, which are the run that begins at `first`.
     fn next(&self) -> usize
         ensures { result ≡ behind self.now }
     {
-        let rows = tables::parameter_rows(self.parameters);
+        let rows = tables::parameter_rows(self.tables.parameters);
         for row in self.first..rows {
-            if tables::property_of(self.parameters, row) as usize != self.number {
+            if tables::property_of(self.tables.parameters, row) as usize != self.number {
                 return row;
             }
         }
@@ -172,7 +175,7 @@ impl<'a> Line<'a> {
 
     // Whether key, colon and value stand in the text one behind the other, as a reading leaves them.
     fn stands_whole(&self) -> bool
-        ensures { result ≡ true → viewed self.now.text.now self.now.row.key_start (self.now.row.key_len + 1 + self.now.row.value_len)
+        ensures { result ≡ true → viewed self.now.tables.now.text.now self.now.row.key_start (self.now.row.key_len + 1 + self.now.row.value_len)
             ≡ key_of self.now ++ colon ∷ value_of self.now }
     {
         let p = self.row;
@@ -181,10 +184,10 @@ impl<'a> Line<'a> {
         if value != colon + 1 {
             return false;
         }
-        if self.text.len() < value + p.value_len as usize {
+        if self.tables.text.len() < value + p.value_len as usize {
             return false;
         }
-        self.text[colon] == b':'
+        self.tables.text[colon] == b':'
     }
 
     // Lays the line but for its end. One without parameters that stands in the text from its key to its value is laid as it stands.
@@ -195,7 +198,7 @@ impl<'a> Line<'a> {
         if (next == self.first) & self.stands_whole() {
             let p = self.row;
             let length = p.key_len as usize + 1 + p.value_len as usize;
-            let line = octets::view(self.text, p.key_start as usize, length);
+            let line = octets::view(self.tables.text, p.key_start as usize, length);
             return Pen::START.piece(line, out);
         }
         let named = Pen::START.piece(self.key(), out);

@@ -8,13 +8,13 @@ ghost use Rattle.octets.specs.Classes.{member};
 ghost use Rattle.parameters.specs.Values.{is_list};
 ghost use Rattle.characters.specs.Utf8.{is_utf8};
 ghost use Rattle.tables.specs.Rows.{component_size, property_size, parameter_size, component_at, property_at, parameter_at, rows_of};
-ghost use Rattle.tables.specs.Lent.{lent};
+ghost use Rattle.tables.specs.Lent.{held};
 ghost use Rattle.writable.specs.WritingRule.{name_fits, key_fits, no_break, present_fits, verdict, component_verdict, property_verdict, parameter_verdict, judged_from, judged_in};
 ghost use Rattle.writable.specs.declared.Fault.{Fault};
 ghost use Rattle.writable.specs.Views.{bytes_of};
 
 use octets::Class;
-use tables::{ComponentRow, ParameterRow, PropertyRow};
+use tables::{ComponentRow, ParameterRow, PropertyRow, Tables};
 
 // Why a row cannot be written.
 #[derive(Clone, Copy)]
@@ -268,17 +268,12 @@ fn judge_rows<R: Writable>(text: &[u8], table: &[u32], first: usize) -> Result<(
 }
 
 // The first row, numbered through the three tables, that breaks the writing rule or has a value to write that is not UTF-8.
-pub fn judge(
-    text: &[u8],
-    components: &[u32],
-    properties: &[u32],
-    parameters: &[u32],
-) -> Result<(), Unfit>
-    ensures { result ≡ judged_in (lent text.now components.now properties.now parameters.now) }
+pub fn judge(tables: &Tables) -> Result<(), Unfit>
+    ensures { result ≡ judged_in (held tables.now) }
 {
-    judge_rows::<ComponentRow>(text, components, 0)?;
-    let first = tables::component_rows(components);
-    judge_rows::<PropertyRow>(text, properties, first)?;
-    let first = first + tables::property_rows(properties);
-    judge_rows::<ParameterRow>(text, parameters, first)
+    judge_rows::<ComponentRow>(tables.text, tables.components, 0)?;
+    let first = tables::component_rows(tables.components);
+    judge_rows::<PropertyRow>(tables.text, tables.properties, first)?;
+    let first = first + tables::property_rows(tables.properties);
+    judge_rows::<ParameterRow>(tables.text, tables.parameters, first)
 }

@@ -6,14 +6,14 @@ use Rattle.printing.proofs.Line.next.Goals as goal
 pub returns-then-property_of-self : goal.returns-then-property_of-self
 returns-then-property_of-self c =
     let l = c.args.self.now in
-    no_more l.parameters.now l.number l.first c.loop-row.invariant (omega arith) (λ e. c.if-property_of-self.true (omega arith))
+    no_more l.tables.now.parameters.now l.number l.first c.loop-row.invariant (omega arith) (λ e. c.if-property_of-self.true (omega arith))
 
 pub loop-row-preserved : goal.loop-row-preserved
 loop-row-preserved c =
     let l = c.args.self.now in
-    one_more l.parameters.now l.number l.first c.loop-row.invariant (omega arith) (omega arith)
+    one_more l.tables.now.parameters.now l.number l.first c.loop-row.invariant (omega arith) (omega arith)
 
 pub returns : goal.returns
 returns c =
     let l = c.args.self.now in
-    rw (c.max.ensures, c.parameter_rows-rows.ensures) (over l.parameters.now l.number l.first c.loop-row.invariant (omega arith))
+    rw (c.max.ensures, c.parameter_rows-rows.ensures) (over l.tables.now.parameters.now l.number l.first c.loop-row.invariant (omega arith))

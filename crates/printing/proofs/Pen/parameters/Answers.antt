@@ -10,12 +10,12 @@ use Rattle.printing.proofs.Pen.parameters.Goals as goal
 pub parameter_at-p-requires : goal.parameter_at-p-requires
 parameter_at-p-requires c =
     let l = c.args.line.now in
-    inside l.parameters.now l.number l.first c.loop-row.invariant.along (omega arith)
+    inside l.tables.now.parameters.now l.number l.first c.loop-row.invariant.along (omega arith)
 
 pub loop-row-preserved : goal.loop-row-preserved
 loop-row-preserved c =
     turn c.loop-row.invariant (omega arith) (omega arith)
-    (piece_as (ap (λ (p : ParameterRow). parameter_text (parameter_of c.args.line.now.text.now p)) c.parameter_at-p.ensures) c.parameter-pen.ensures)
+    (piece_as (ap (λ (p : ParameterRow). parameter_text (parameter_of c.args.line.now.tables.now.text.now p)) c.parameter_at-p.ensures) c.parameter-pen.ensures)
 
 pub returns : goal.returns
 returns c = listed c.loop-row.invariant (omega arith)
