@@ -6,6 +6,7 @@ use Rattle.octets.specs.Bytes.{cr, lf, quote, key_byte, other, ascii}
 use Rattle.octets.specs.Runs.{only}
 use Rattle.octets.specs.Keys.{reserved}
 use Rattle.octets.specs.Views.{viewed}
+use Rattle.octets.specs.Answers.{unwritable, not_utf8}
 use Rattle.parameters.specs.Values.{is_list}
 use Rattle.characters.specs.Utf8.{is_utf8}
 use Rattle.tables.specs.Trees.{Value, absent, present, value_of}
@@ -84,3 +85,8 @@ judged_in b =
     (judged_from (property_verdict b.text) (length (components_in b.components)) (properties_in b.properties)
     (judged_from (parameter_verdict b.text) (length (components_in b.components) + length (properties_in b.properties)) (parameters_in b.parameters)
     (Ok tt)))
+
+-- the number that a fault is refused with
+abbrev pub number_of : Fault → ℕ
+number_of Fault.Unwritable = unwritable
+number_of Fault.NotUtf8 = not_utf8

@@ -5,15 +5,16 @@ ghost use Rattle.std.specs.Prelude.{◌≡◌, true, ℕ, List, Result, ◌||◌
 ghost use Rattle.octets.specs.Bytes.{quote, key_byte, other};
 ghost use Rattle.octets.specs.Runs.{only};
 ghost use Rattle.octets.specs.Classes.{member};
+ghost use Rattle.octets.specs.Answers.{output};
 ghost use Rattle.parameters.specs.Values.{is_list};
 ghost use Rattle.characters.specs.Utf8.{is_utf8};
 ghost use Rattle.tables.specs.Rows.{component_size, property_size, parameter_size, component_at, property_at, parameter_at, rows_of};
 ghost use Rattle.tables.specs.Lent.{held};
-ghost use Rattle.writable.specs.WritingRule.{name_fits, key_fits, no_break, present_fits, verdict, component_verdict, property_verdict, parameter_verdict, judged_from, judged_in};
+ghost use Rattle.writable.specs.WritingRule.{name_fits, key_fits, no_break, present_fits, verdict, component_verdict, property_verdict, parameter_verdict, judged_from, judged_in, number_of};
 ghost use Rattle.writable.specs.declared.Fault.{Fault};
 ghost use Rattle.writable.specs.Views.{bytes_of};
 
-use octets::Class;
+use octets::{Class, Output};
 use tables::{ComponentRow, ParameterRow, PropertyRow, Tables};
 
 // Why a row cannot be written.
@@ -28,6 +29,19 @@ pub enum Fault {
 pub struct Unfit {
     pub row: usize,
     pub fault: Fault,
+}
+
+// The writer refuses with the number of the fault, at the row.
+impl From<Unfit> for Output {
+    ghost from_gives = { λ unfit told. told ≡ output (number_of unfit.fault) unfit.row 0 };
+
+    fn from(unfit: Unfit) -> Output {
+        let number = match unfit.fault {
+            Fault::Unwritable => octets::UNWRITABLE,
+            Fault::NotUtf8 => octets::NOT_UTF8,
+        };
+        Output::refusal(number, unfit.row)
+    }
 }
 
 // A part of the text, as a row names it.
