@@ -6,9 +6,11 @@ use Prim.Native.Nat.{ℕ, ◌+◌, ◌≤◌, ◌<◌}
 use native.Mathlib.Omega.{arith}
 use mir.Val.{bool_byte}
 use lib.Bits.{bit_or, or_zero_l}
-use lib.ListN.{length, get_or, drop}
+use lib.ListN.{length, get_or, take, drop}
+use Rattle.std.proofs.lemmas.List.{get_or-take, get_or-drop}
 use lib.Dec.{ltb, eqb}
 use borrow.Author.Tests.{ltb-true, ltb-false, lt-ltb, le-ltb}
+use Rattle.octets.specs.Bytes.{other}
 use Rattle.octets.specs.Runs.{run}
 use Rattle.octets.proofs.Runs.{on, stop, passed}
 
@@ -35,3 +37,11 @@ ends class a at j true e h k =
     sym (lt-ltb (run class (drop at a)) (j + 1) (omega (arith, passed class a at j k, stop class a (at + j) h e)))
 ends class a at j false e h k =
     sym (le-ltb (run class (drop at a)) (j + 1) (omega (arith, passed class a at j k, on class a (at + j) h e)))
+
+-- of the n bytes from `at` on the one at j is asked for, too
+pub hit_more : (b : ℕ) (a : List ℕ) (at n j : ℕ) → at + n ≤ length a → j < n → {hit : ℕ} → hit ≡ bool_byte (ltb (run (other b) (drop at a)) j)
+    → bit_or hit (bool_byte (eqb (get_or (take n (drop at a)) j 0) b)) ≡ bool_byte (ltb (run (other b) (drop at a)) (j + 1))
+hit_more b a at n j h k e =
+    let t = eqb (get_or a (at + j) 0) b in
+    rw (e, get_or-take n (drop at a) j 0 k, get_or-drop at a j 0)
+    (onward (run (other b) (drop at a)) j t (ends (other b) a at j t refl (omega arith)))

@@ -2,24 +2,17 @@
 use mathlib.Core.Path.{◌≡◌, refl, sym, ap, ◌∙◌}
 use mathlib.Core.Bool.{Bool, true, false, ◌&&◌, false≢true}
 use mathlib.Core.List.{List, [], ◌∷◌, ◌++◌, map, map-append}
-use Prim.Native.Nat.{ℕ, suc, ◌+◌, ◌≤◌, ◌<◌, zero-le, suc-le-suc}
-use native.Mathlib.Numerals.{add-one}
+use Prim.Native.Nat.{ℕ, suc, ◌≤◌, ◌<◌, zero-le, suc-le-suc}
 use native.Mathlib.Omega.{arith}
-use lib.ListN.{length, get_or, take, drop, drop_of_length-le, take-append-drop, length-map}
-use lib.Seq.{drop-cons}
+use lib.ListN.{length, take, drop, take-append-drop, length-map}
 use lib.Dec.{eqb}
 use borrow.Author.Tests.{eqb-true, eq-eqb}
+use lib.Dec.{leb}
+use lib.Pointwise.{pointwise}
+use borrow.Author.Tests.{le-leb, le-ltb, lt-ltb, leb-true, leb-false}
+use Rattle.std.specs.Char.{to_ascii_lowercase}
 use Rattle.octets.specs.Bytes.{lowered}
 use Rattle.octets.specs.Words.{same_bytes, same_word, starts_word}
-
-pub same_turn : (xs ys : List ℕ) (i : ℕ) → i < length xs → i < length ys
-    → same_bytes (drop i xs) (drop i ys) ≡ eqb (get_or xs i 0) (get_or ys i 0) && same_bytes (drop (i + 1) xs) (drop (i + 1) ys)
-unfolding same_bytes
-same_turn xs ys i h k = rw (drop-cons xs i 0 h, drop-cons ys i 0 k, add-one)
-
-pub same_ended : (xs ys : List ℕ) (i : ℕ) → length xs ≤ i → length ys ≤ i → same_bytes (drop i xs) (drop i ys) ≡ true
-unfolding same_bytes
-same_ended xs ys i h k = rw (drop_of_length-le xs h, drop_of_length-le ys k)
 
 -- lists of unlike lengths are not the same
 pub unlike : (xs ys : List ℕ) → (length xs ≡ length ys → ⊥) → same_bytes xs ys ≡ false
@@ -75,16 +68,6 @@ differ_in_front (x ∷ xs) (y ∷ ys) us vs l e = go (eqb x y) e (differ_in_fron
     go true p rest = rest p
     go false p rest = refl
 
--- words, letter by letter
-pub word_turn : (xs ys : List ℕ) (i : ℕ) → i < length xs → i < length ys
-    → same_word (drop i xs) (drop i ys) ≡ eqb (lowered (get_or xs i 0)) (lowered (get_or ys i 0)) && same_word (drop (i + 1) xs) (drop (i + 1) ys)
-unfolding same_bytes
-word_turn xs ys i h k = rw (drop-cons xs i 0 h, drop-cons ys i 0 k, add-one)
-
-pub word_ended : (xs ys : List ℕ) (i : ℕ) → length xs ≤ i → length ys ≤ i → same_word (drop i xs) (drop i ys) ≡ true
-unfolding same_bytes
-word_ended xs ys i h k = rw (drop_of_length-le xs h, drop_of_length-le ys k)
-
 -- equal bytes are equal in lower case
 pub word_rest : (xs ys : List ℕ) (n : ℕ) → take n xs ≡ take n ys → same_word (drop n xs) (drop n ys) ≡ same_word xs ys
 word_rest xs ys n e =
@@ -97,20 +80,6 @@ word_rest xs ys n e =
 
 pub unlike_word : (xs ys : List ℕ) → (length xs ≡ length ys → ⊥) → same_word xs ys ≡ false
 unlike_word xs ys h = unlike (map lowered xs) (map lowered ys) (λ e. h (sym (length-map xs lowered) ∙ (e ∙ length-map ys lowered)))
-
-pub starts_turn : (ws xs : List ℕ) (i : ℕ) → i < length ws → i < length xs
-    → starts_word (drop i ws) (drop i xs) ≡ eqb (lowered (get_or xs i 0)) (lowered (get_or ws i 0)) && starts_word (drop (i + 1) ws) (drop (i + 1) xs)
-unfolding starts_word
-starts_turn ws xs i h k = rw (drop-cons ws i 0 h, drop-cons xs i 0 k, add-one)
-
-pub starts_ended : (ws xs : List ℕ) (i : ℕ) → length ws ≤ i → starts_word (drop i ws) (drop i xs) ≡ true
-unfolding starts_word
-starts_ended ws xs i h = rw (drop_of_length-le ws h)
-
--- the line ends before the word
-pub starts_short : (ws xs : List ℕ) (i : ℕ) → i < length ws → length xs ≤ i → starts_word (drop i ws) (drop i xs) ≡ false
-unfolding starts_word
-starts_short ws xs i h k = rw (drop-cons ws i 0 h, drop_of_length-le xs k)
 
 -- a line that starts with a word is at least as long
 pub starts_length : (ws xs : List ℕ) → starts_word ws xs ≡ true → length ws ≤ length xs
@@ -125,3 +94,54 @@ starts_length (w ∷ ws) (x ∷ xs) e = go (eqb (lowered x) (lowered w)) e (star
     go : (t : Bool) → t && starts_word ws xs ≡ true → (starts_word ws xs ≡ true → length ws ≤ length xs) → suc (length ws) ≤ suc (length xs)
     go true p rest = suc-le-suc (rest p)
     go false p rest = let z : ◌≡◌ {A = ℕ} 0 1 = cc in omega arith
+
+-- ---- the same in the words of std
+
+-- `==` of two slices
+pub pointwise_same : (xs ys : List ℕ) → pointwise eqb xs ys ≡ same_bytes xs ys
+unfolding same_bytes
+pointwise_same [] [] = refl
+pointwise_same [] (y ∷ ys) = refl
+pointwise_same (x ∷ xs) [] = refl
+pointwise_same (x ∷ xs) (y ∷ ys) = ap (λ (t : Bool). eqb x y && t) (pointwise_same xs ys)
+
+pub small_letter : (x : ℕ) → to_ascii_lowercase x ≡ lowered x
+small_letter x = go (leb 65 x) refl
+  where
+    capital : (t : Bool) → leb x 90 ≡ t → 65 ≤ x → to_ascii_lowercase x ≡ lowered x
+    capital true e h = rw (le-ltb x 65 h, lt-ltb x 91 (omega (arith, leb-true x 90 e)), le-leb 65 x h, e)
+    capital false e h = rw (le-ltb x 65 h, le-ltb x 91 (omega (arith, leb-false x 90 e)), le-leb 65 x h, e)
+
+    go : (t : Bool) → leb 65 x ≡ t → to_ascii_lowercase x ≡ lowered x
+    go true e = capital (leb x 90) refl (leb-true 65 x e)
+    go false e = rw (lt-ltb x 65 (leb-false 65 x e), e)
+
+pub small_letters : (xs : List ℕ) → map to_ascii_lowercase xs ≡ map lowered xs
+small_letters [] = refl
+small_letters (x ∷ xs) = cc (small_letter x, small_letters xs)
+
+-- `eq_ignore_ascii_case`, whose answer t is known by what it means
+pub same_small : (xs ys : List ℕ) {t : Bool} → (t ≡ true → map to_ascii_lowercase xs ≡ map to_ascii_lowercase ys)
+    × (map to_ascii_lowercase xs ≡ map to_ascii_lowercase ys → t ≡ true) → t ≡ same_word xs ys
+same_small xs ys {t} told = go t refl (same_word xs ys) refl
+  where
+    go : (u : Bool) → t ≡ u → (w : Bool) → same_word xs ys ≡ w → t ≡ same_word xs ys
+    go true e w p =
+        let q : map lowered xs ≡ map lowered ys = sym (small_letters xs) ∙ (told.0 e ∙ small_letters ys) in
+        e ∙ sym (ap (λ (zs : List ℕ). same_bytes zs (map lowered ys)) q ∙ same_refl (map lowered ys))
+    go false e true p = told.1 (small_letters xs ∙ (same_eq (map lowered xs) (map lowered ys) p ∙ sym (small_letters ys))) ∙ sym p
+    go false e false p = e ∙ sym p
+
+-- a word at the front of a line that is long enough is the same as the line's front
+pub starts_front : (ws xs : List ℕ) → length ws ≤ length xs → same_word (take (length ws) xs) ws ≡ starts_word ws xs
+unfolding same_bytes starts_word
+starts_front [] xs h = refl
+starts_front (w ∷ ws) [] h = absurd (omega arith)
+starts_front (w ∷ ws) (x ∷ xs) h = ap (λ (t : Bool). eqb (lowered x) (lowered w) && t) (starts_front ws xs (omega arith))
+
+pub starts_behind : (ws xs : List ℕ) → length xs < length ws → starts_word ws xs ≡ false
+starts_behind ws xs h = go (starts_word ws xs) refl
+  where
+    go : (t : Bool) → starts_word ws xs ≡ t → starts_word ws xs ≡ false
+    go true e = absurd (omega (arith, starts_length ws xs e))
+    go false e = e

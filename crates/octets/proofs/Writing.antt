@@ -26,10 +26,7 @@ past at xs old h = rw (take_all at old h, drop_of_length-le old h) (by xs)
 pub counts : (at : ℕ) (xs : List ℕ) {n : ℕ} → n ≡ counted (at + length xs) → Lays at xs [] [] n
 counts at xs e = record { count = e; is = sym (past at xs [] zero-le) }
 
--- one byte: stored where there is room, and nowhere else
-pub none_laid : (at b : ℕ) (old : List ℕ) → length old ≤ at → old ≡ laid_from at (b ∷ []) old
-none_laid at b old h = sym (past at (b ∷ []) old h)
-
+-- one byte, where there is room
 pub one_laid : (at b : ℕ) (old : List ℕ) → at < length old → set old at b ≡ laid_from at (b ∷ []) old
 one_laid at b old h =
     let room : 1 ≤ length (drop at old) = omega (arith, length-drop at old) in

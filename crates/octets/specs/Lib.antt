@@ -4,7 +4,6 @@ pub mod Bytes
 pub mod Runs
 pub mod All
 pub mod Numbers
-pub mod Classes
 pub mod Words
 pub mod Keys
 pub mod Views

@@ -1,5 +1,5 @@
 // Eight bytes as one number, so that one question is asked of all of them at once.
-ghost use Rattle.std.specs.Prelude.{◌≡◌, ◌+◌, ◌/◌, ◌≤◌, ◌<◌, length, get_or};
+ghost use Rattle.std.specs.Prelude.{◌≡◌, ◌+◌, ◌/◌, ◌≤◌, length};
 ghost use Rattle.std.specs.Int.Count.{count_trailing_zeros};
 ghost use Rattle.octets.specs.Bytes.{capital, common, other};
 ghost use Rattle.octets.specs.Numbers.{number, marks, eight};
@@ -18,26 +18,21 @@ const PAST_Z: u64 = 0x2525_2525_2525_2525;
 // What lifts a space there.
 const FROM_SPACE: u64 = 0x6060_6060_6060_6060;
 
-fn byte(a: &[u8], at: usize) -> u64
-    requires { at < length a.now }
-    ensures { (result ≡ get_or a.now at 0) × (result < 256) }
-{
-    a[at] as u64
-}
-
-// The bytes from `at` on, the first one lowest. Written as one sum, so that it becomes one load.
+// The bytes from `at` on, the first one lowest.
 fn number_at(a: &[u8], at: usize) -> u64
     requires { at + 8 ≤ length a.now }
     ensures { result ≡ number (eight a.now at) }
 {
-    byte(a, at)
-        + 0x100 * byte(a, at + 1)
-        + 0x1_0000 * byte(a, at + 2)
-        + 0x100_0000 * byte(a, at + 3)
-        + 0x1_0000_0000 * byte(a, at + 4)
-        + 0x100_0000_0000 * byte(a, at + 5)
-        + 0x1_0000_0000_0000 * byte(a, at + 6)
-        + 0x100_0000_0000_0000 * byte(a, at + 7)
+    u64::from_le_bytes([
+        a[at],
+        a[at + 1],
+        a[at + 2],
+        a[at + 3],
+        a[at + 4],
+        a[at + 5],
+        a[at + 6],
+        a[at + 7],
+    ])
 }
 
 // Whether the 8 bytes from `at` on are the same in both.
@@ -54,7 +49,7 @@ pub fn marks_of(a: &[u8], at: usize, b: u8) -> u64
     ensures { result ≡ marks (other b) (eight a.now at) }
 {
     // A byte that is b becomes 0. Every other one has the top bit in the sum or had it before.
-    let differ = number_at(a, at) ^ (ONES * b as u64);
+    let differ = number_at(a, at) ^ (ONES * u64::from(b));
     ((((differ & LOW) + LOW) | differ) & HIGH) ^ HIGH
 }
 
@@ -85,5 +80,5 @@ pub fn marks_of_uncommon(a: &[u8], at: usize) -> u64
 pub fn first_mark(marked: u64) -> usize
     ensures { result ≡ count_trailing_zeros 64 marked / 8 }
 {
-    (u64::trailing_zeros(marked) / 8) as usize
+    (marked.trailing_zeros() / 8) as usize
 }

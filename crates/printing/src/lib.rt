@@ -11,7 +11,7 @@ ghost use Rattle.printing.specs.Lines.{closed_line, value_text, parameter_text, 
 ghost use Rattle.printing.specs.Pens.{Penned, key_of, value_of, own_of, behind, line_of};
 
 use folding::Column;
-use tables::{ParameterRow, PropertyRow, Tables};
+use tables::{ParameterRow, PropertyRow, Row, Tables};
 
 // Where a line that is laid piece by piece goes on: the octets that its physical line still takes, and the place in the buffer.
 #[derive(Clone, Copy)]
@@ -100,7 +100,7 @@ impl Pen {
     {
         let mut pen = self;
         for row in line.first..next {
-            let p = tables::parameter_at(line.tables.parameters, row);
+            let p = ParameterRow::at(line.tables.parameters, row);
             pen = pen.parameter(line.tables.text, p, out);
         }
         pen
@@ -164,7 +164,7 @@ impl<'a> Line<'a> {
     fn next(&self) -> usize
         ensures { result ≡ behind self.now }
     {
-        let rows = tables::parameter_rows(self.tables.parameters);
+        let rows = ParameterRow::count(self.tables.parameters);
         for row in self.first..rows {
             if tables::property_of(self.tables.parameters, row) as usize != self.number {
                 return row;

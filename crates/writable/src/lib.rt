@@ -1,21 +1,20 @@
 // The writing rule as a test: which row of three tables is the first that cannot be written.
 #![tactic(auto)]
 
-ghost use Rattle.std.specs.Prelude.{◌≡◌, true, ℕ, List, Result, ◌||◌, ◌+◌, ◌/◌, ◌<◌, ◌≤◌, length};
+ghost use Rattle.std.specs.Prelude.{◌≡◌, true, ℕ, List, Result, ◌||◌, ◌+◌, ◌/◌, ◌≤◌, length};
 ghost use Rattle.octets.specs.Bytes.{quote, key_byte, other};
 ghost use Rattle.octets.specs.Runs.{only};
-ghost use Rattle.octets.specs.Classes.{member};
 ghost use Rattle.octets.specs.Answers.{output};
 ghost use Rattle.parameters.specs.Values.{is_list};
 ghost use Rattle.characters.specs.Utf8.{is_utf8};
-ghost use Rattle.tables.specs.Rows.{component_size, property_size, parameter_size, component_at, property_at, parameter_at, rows_of};
+ghost use Rattle.tables.specs.Rows.{row_at, rows_of};
 ghost use Rattle.tables.specs.Lent.{held};
 ghost use Rattle.writable.specs.WritingRule.{name_fits, key_fits, no_break, present_fits, verdict, component_verdict, property_verdict, parameter_verdict, judged_from, judged_in, number_of};
 ghost use Rattle.writable.specs.declared.Fault.{Fault};
 ghost use Rattle.writable.specs.Views.{bytes_of};
 
-use octets::{Class, Output};
-use tables::{ComponentRow, ParameterRow, PropertyRow, Tables};
+use octets::{Capital, Class, Common, Output};
+use tables::{ComponentRow, ParameterRow, PropertyRow, Row, Tables};
 
 // Why a row cannot be written.
 #[derive(Clone, Copy)]
@@ -60,20 +59,20 @@ impl<'a> View<'a> {
     }
 
     // Whether all bytes are seen at a look to be of a class, as those of most names, keys and values are.
-    fn is_seen(&self, class: Class) -> bool
-        ensures { result ≡ true → only (member class) (bytes_of self.now) ≡ true }
+    fn is_seen<C: Class>(&self) -> bool
+        ensures { result ≡ true → only C.has (bytes_of self.now) ≡ true }
     {
         if !octets::eight_behind(self.text, self.start, self.len) {
             return false;
         }
-        octets::all_of(class, self.text, self.start as usize, self.len as usize)
+        octets::all_of::<C>(self.text, self.start as usize, self.len as usize)
     }
 
     // Whether all of it are key bytes.
     fn of_key_bytes(&self) -> bool
         ensures { result ≡ only key_byte (bytes_of self.now) }
     {
-        if self.is_seen(Class::Capital) {
+        if self.is_seen::<Capital>() {
             return true;
         }
         let key = self.bytes();
@@ -101,7 +100,7 @@ impl<'a> View<'a> {
     fn value_verdict(&self) -> Result<(), Fault>
         ensures { result ≡ verdict (only no_break (bytes_of self.now)) (is_utf8 (bytes_of self.now)) }
     {
-        if self.is_seen(Class::Common) {
+        if self.is_seen::<Common>() {
             return Ok(());
         }
         let value = self.bytes();
@@ -150,38 +149,15 @@ fn quotes_fit(value: &[u8]) -> bool
 }
 
 // A row of one of the three tables, as the writing rule judges it.
-trait Writable: Copy {
-    ghost size: { ℕ };
-
-    ghost at: { List ℕ → ℕ → Self };
-
+trait Writable: Row {
     ghost verdict_of: { List ℕ → Self → Result (Unit {0}) Fault };
-
-    fn rows(table: &[u32]) -> usize
-        ensures { result ≡ length table.now / size };
-
-    fn read(table: &[u32], row: usize) -> Self
-        requires { row < length table.now / size }
-        ensures { result ≡ at table.now row };
 
     fn verdict(&self, text: &[u8]) -> Result<(), Fault>
         ensures { result ≡ verdict_of text.now self.now };
 }
 
 impl Writable for ComponentRow {
-    ghost size = { component_size };
-
-    ghost at = { component_at };
-
     ghost verdict_of = { component_verdict };
-
-    fn rows(table: &[u32]) -> usize {
-        tables::component_rows(table)
-    }
-
-    fn read(table: &[u32], row: usize) -> ComponentRow {
-        tables::component_at(table, row)
-    }
 
     fn verdict(&self, text: &[u8]) -> Result<(), Fault> {
         let name = View {
@@ -197,19 +173,7 @@ impl Writable for ComponentRow {
 }
 
 impl Writable for PropertyRow {
-    ghost size = { property_size };
-
-    ghost at = { property_at };
-
     ghost verdict_of = { property_verdict };
-
-    fn rows(table: &[u32]) -> usize {
-        tables::property_rows(table)
-    }
-
-    fn read(table: &[u32], row: usize) -> PropertyRow {
-        tables::property_at(table, row)
-    }
 
     fn verdict(&self, text: &[u8]) -> Result<(), Fault> {
         let key = View {
@@ -230,19 +194,7 @@ impl Writable for PropertyRow {
 }
 
 impl Writable for ParameterRow {
-    ghost size = { parameter_size };
-
-    ghost at = { parameter_at };
-
     ghost verdict_of = { parameter_verdict };
-
-    fn rows(table: &[u32]) -> usize {
-        tables::parameter_rows(table)
-    }
-
-    fn read(table: &[u32], row: usize) -> ParameterRow {
-        tables::parameter_at(table, row)
-    }
 
     fn verdict(&self, text: &[u8]) -> Result<(), Fault> {
         let key = View {
@@ -267,11 +219,11 @@ impl Writable for ParameterRow {
 
 // The first row of a table that cannot be written; its rows are numbered from `first` on.
 fn judge_rows<R: Writable>(text: &[u8], table: &[u32], first: usize) -> Result<(), Unfit>
-    requires { first + length table.now / R.size ≤ 18446744073709551615 }
-    ensures { result ≡ judged_from (R.verdict_of text.now) first (rows_of R.size R.at table.now) (Ok tt) }
+    requires { first + length table.now / R.WORDS ≤ 18446744073709551615 }
+    ensures { result ≡ judged_from (R.verdict_of text.now) first (rows_of R.WORDS (row_at R.WORDS R.from) table.now) (Ok tt) }
 {
-    for i in 0..R::rows(table) {
-        if let Err(fault) = R::read(table, i).verdict(text) {
+    for i in 0..R::count(table) {
+        if let Err(fault) = R::at(table, i).verdict(text) {
             return Err(Unfit {
                 row: first + i,
                 fault,
@@ -286,8 +238,8 @@ pub fn judge(tables: &Tables) -> Result<(), Unfit>
     ensures { result ≡ judged_in (held tables.now) }
 {
     judge_rows::<ComponentRow>(tables.text, tables.components, 0)?;
-    let first = tables::component_rows(tables.components);
+    let first = ComponentRow::count(tables.components);
     judge_rows::<PropertyRow>(tables.text, tables.properties, first)?;
-    let first = first + tables::property_rows(tables.properties);
+    let first = first + PropertyRow::count(tables.properties);
     judge_rows::<ParameterRow>(tables.text, tables.parameters, first)
 }

@@ -20,7 +20,7 @@ ghost use Rattle.writing.specs.Lengths.{marks_length, line_length};
 use checking::Checked;
 use octets::Output;
 use printing::{Line, Printed};
-use tables::Tables;
+use tables::{ComponentRow, PropertyRow, Row, Tables};
 use walking::{Cursor, Walk, Window};
 
 // Where the writer stands: the component row that comes next, where the output goes on, and how far the walk has come.
@@ -51,7 +51,7 @@ fn name_of<'a>(tables: &Tables<'a>, row: usize) -> &'a [u8]
     requires { row < length (components_in (held tables.now).components) }
     ensures { result.now ≡ name_in (held tables.now).text (components_in (held tables.now).components) row }
 {
-    let c = tables::component_at(tables.components, row);
+    let c = ComponentRow::at(tables.components, row);
     octets::view(tables.text, c.name_start as usize, c.name_len as usize)
 }
 
@@ -75,7 +75,7 @@ fn write_property(walk: &Walk, number: usize, printed: Printed, out: &mut [u8]) 
     let tables = &walk.tables;
     let line = Line {
         tables,
-        row: tables::property_at(tables.properties, number),
+        row: PropertyRow::at(tables.properties, number),
         number,
         first: walking::first_held(tables.parameters, printed.next, number),
     };
@@ -154,7 +154,7 @@ fn write_component(walk: &Walk, level: usize, place: Place, out: &mut [u8]) -> P
 fn write_trees(walk: &Walk, out: &mut [u8]) -> usize
     ensures { Lays 0 (written_in (held walk.now.tables)) out.old out.new result }
 {
-    let rows = tables::component_rows(walk.tables.components);
+    let rows = ComponentRow::count(walk.tables.components);
     let mut place = Place::START;
     while place.row < rows {
         place = write_component(walk, octets::DEEPEST - 1, place, out);
@@ -168,7 +168,7 @@ fn count_marks(tables: &Tables) -> usize
 {
     let mut none = [0u8; 0];
     let mut at: usize = 0;
-    for row in 0..tables::component_rows(tables.components) {
+    for row in 0..ComponentRow::count(tables.components) {
         let name = name_of(tables, row);
         let opened = write_mark(b"BEGIN:", name, &mut none, at);
         at = write_mark(b"END:", name, &mut none, opened);
@@ -185,7 +185,7 @@ fn count_lines(walk: &Walk, at: usize) -> usize
         length: at,
         next: 0,
     };
-    for number in 0..tables::property_rows(walk.tables.properties) {
+    for number in 0..PropertyRow::count(walk.tables.properties) {
         printed = write_property(walk, number, printed, &mut none);
     }
     printed.length
