@@ -1,7 +1,8 @@
-// One line of a calendar, folded strictly and closed by CRLF, laid over the front of what is left of the output. Over an empty buffer it is only counted.
+// One line of a calendar, folded strictly and closed by CRLF, laid over the front of what is left of the output, or only counted.
 #![tactic(auto)]
 
-ghost use Rattle.std.specs.Prelude.{◌≡◌, true, [], ◌∷◌, ◌++◌, ◌+◌};
+ghost use Rattle.std.specs.Prelude.{◌≡◌, ℕ, List, true, [], ◌∷◌, ◌++◌, ◌+◌, ◌≤◌, length};
+ghost use Rattle.std.proofs.Common.{le_refl, zero-le};
 ghost use Rattle.octets.specs.Bytes.{cr, lf, colon, ascii};
 ghost use Rattle.octets.specs.Runs.{only};
 ghost use Rattle.octets.specs.Laid.{Lays};
@@ -28,101 +29,164 @@ impl Pen {
     };
 
     // Lays a piece of a line, folded strictly, from the pen on. A piece that the physical line takes whole is laid as it is.
-    fn piece(self, piece: &[u8], out: &mut [u8]) -> Pen
-        ensures { Penned self piece.now out.old out.new result }
+    fn piece<S: Sink>(self, piece: &[u8], out: &mut [u8]) -> Pen
+        ensures { Penned self piece.now (S.seen out.old) (S.seen out.new) result }
     {
         if piece.len() <= self.left {
             return Pen {
                 left: self.left - piece.len(),
-                at: octets::lay(piece, out, self.at),
+                at: S::lay(piece, out, self.at),
             };
         }
-        let from = self.at.min(out.len());
-        let column = Column::new(self.left);
-        let folded = folding::fold_piece(column, piece, &mut out[from..]);
-        Pen {
-            left: folded.column.left,
-            at: self.at.saturating_add(folded.length),
-        }
+        S::fold(self, piece, out)
     }
 
     // Lays one byte in the same way.
-    fn byte(self, b: u8, out: &mut [u8]) -> Pen
-        ensures { Penned self (b ∷ []) out.old out.new result }
+    fn byte<S: Sink>(self, b: u8, out: &mut [u8]) -> Pen
+        ensures { Penned self (b ∷ []) (S.seen out.old) (S.seen out.new) result }
     {
         if 0 < self.left {
             return Pen {
                 left: self.left - 1,
-                at: octets::lay_byte(b, out, self.at),
+                at: S::lay_byte(b, out, self.at),
             };
         }
-        self.piece(&[b], out)
+        self.piece::<S>(&[b], out)
     }
 
     // Lays a byte of ASCII, which ends any character, and the piece behind it.
-    fn after(self, mark: u8, piece: &[u8], out: &mut [u8]) -> Pen
+    fn after<S: Sink>(self, mark: u8, piece: &[u8], out: &mut [u8]) -> Pen
         requires { ascii mark ≡ true }
-        ensures { Penned self (mark ∷ piece.now) out.old out.new result }
+        ensures { Penned self (mark ∷ piece.now) (S.seen out.old) (S.seen out.new) result }
     {
-        let marked = self.byte(mark, out);
-        marked.piece(piece, out)
+        let marked = self.byte::<S>(mark, out);
+        marked.piece::<S>(piece, out)
     }
 
     // Lays a value that is present, in quotes where it wants them.
-    fn value(self, value: &[u8], out: &mut [u8]) -> Pen
-        ensures { Penned self (value_text (present value.now)) out.old out.new result }
+    fn value<S: Sink>(self, value: &[u8], out: &mut [u8]) -> Pen
+        ensures { Penned self (value_text (present value.now)) (S.seen out.old) (S.seen out.new) result }
     {
         if !quoting::wraps(value) {
-            return self.after(b'=', value, out);
+            return self.after::<S>(b'=', value, out);
         }
-        let opened = self.piece(b"=\"", out);
-        let end = opened.piece(value, out);
-        end.byte(b'"', out)
+        let opened = self.piece::<S>(b"=\"", out);
+        let end = opened.piece::<S>(value, out);
+        end.byte::<S>(b'"', out)
     }
 
     // Lays a parameter: an absent value leaves its key alone.
-    fn parameter(self, text: &[u8], p: ParameterRow, out: &mut [u8]) -> Pen
-        ensures { Penned self (parameter_text (parameter_of text.now p)) out.old out.new result }
+    fn parameter<S: Sink>(self, text: &[u8], p: ParameterRow, out: &mut [u8]) -> Pen
+        ensures { Penned self (parameter_text (parameter_of text.now p)) (S.seen out.old) (S.seen out.new) result }
     {
         let key = octets::view(text, p.key_start as usize, p.key_len as usize);
-        let named = self.after(b';', key, out);
+        let named = self.after::<S>(b';', key, out);
         if p.present == 0 {
             return named;
         }
         let value = octets::view(text, p.value_start as usize, p.value_len as usize);
-        named.value(value, out)
+        named.value::<S>(value, out)
     }
 
     // Lays the parameters of a property, up to the row `next`.
-    fn parameters(self, line: &Line, next: usize, out: &mut [u8]) -> Pen
+    fn parameters<S: Sink>(self, line: &Line, next: usize, out: &mut [u8]) -> Pen
         requires { next ≡ behind line.now }
-        ensures { Penned self (parameters_text (own_of line.now)) out.old out.new result }
+        ensures { Penned self (parameters_text (own_of line.now)) (S.seen out.old) (S.seen out.new) result }
     {
         let mut pen = self;
         for row in line.first..next {
             let p = ParameterRow::at(line.tables.parameters, row);
-            pen = pen.parameter(line.tables.text, p, out);
+            pen = pen.parameter::<S>(line.tables.text, p, out);
         }
         pen
     }
 
     // Lays CRLF, which closes the line.
-    fn close(self, out: &mut [u8]) -> usize
-        ensures { Lays self.at (cr ∷ lf ∷ []) out.old out.new result }
+    fn close<S: Sink>(self, out: &mut [u8]) -> usize
+        ensures { Lays self.at (cr ∷ lf ∷ []) (S.seen out.old) (S.seen out.new) result }
     {
-        let next = octets::lay_byte(b'\r', out, self.at);
-        octets::lay_byte(b'\n', out, next)
+        let next = S::lay_byte(b'\r', out, self.at);
+        S::lay_byte(b'\n', out, next)
+    }
+}
+
+// Where the bytes of a line go: over the buffer, or nowhere, where they are only counted.
+pub trait Sink {
+    ghost seen: { List ℕ → List ℕ };
+
+    fn lay(bytes: &[u8], out: &mut [u8], at: usize) -> usize
+        ensures { Lays at bytes.now (seen out.old) (seen out.new) result };
+
+    fn lay_byte(b: u8, out: &mut [u8], at: usize) -> usize
+        ensures { Lays at (b ∷ []) (seen out.old) (seen out.new) result };
+
+    // Folds a piece that the physical line does not take whole.
+    fn fold(pen: Pen, piece: &[u8], out: &mut [u8]) -> Pen
+        ensures { Penned pen piece.now (seen out.old) (seen out.new) result };
+
+    ghost no_longer: { (xs : List ℕ) → length (seen xs) ≤ length xs };
+}
+
+// Over the buffer.
+pub struct Laid;
+
+impl Sink for Laid {
+    ghost seen = { λ xs. xs };
+
+    ghost no_longer = { λ xs. le_refl (length xs) };
+
+    fn lay(bytes: &[u8], out: &mut [u8], at: usize) -> usize {
+        octets::lay(bytes, out, at)
+    }
+
+    fn lay_byte(b: u8, out: &mut [u8], at: usize) -> usize {
+        octets::lay_byte(b, out, at)
+    }
+
+    fn fold(pen: Pen, piece: &[u8], out: &mut [u8]) -> Pen {
+        let from = pen.at.min(out.len());
+        let column = Column::new(pen.left);
+        let folded = folding::fold_piece(column, piece, &mut out[from..]);
+        Pen {
+            left: folded.column.left,
+            at: pen.at.saturating_add(folded.length),
+        }
+    }
+}
+
+// Nowhere: what is laid is counted, and the buffer stays.
+pub struct Counted;
+
+impl Sink for Counted {
+    ghost seen = { λ xs. [] };
+
+    ghost no_longer = { λ xs. zero-le };
+
+    fn lay(bytes: &[u8], out: &mut [u8], at: usize) -> usize {
+        at.saturating_add(bytes.len())
+    }
+
+    fn lay_byte(b: u8, out: &mut [u8], at: usize) -> usize {
+        at.saturating_add(1)
+    }
+
+    fn fold(pen: Pen, piece: &[u8], out: &mut [u8]) -> Pen {
+        let counted = folding::count_piece(Column::new(pen.left), piece);
+        Pen {
+            left: counted.column.left,
+            at: pen.at.saturating_add(counted.length),
+        }
     }
 }
 
 // Lays the line that opens or closes a component: BEGIN or END with its colon, and the name.
-pub fn print_mark(mark: &[u8], name: &[u8], out: &mut [u8]) -> usize
+pub fn print_mark<S: Sink>(mark: &[u8], name: &[u8], out: &mut [u8]) -> usize
     requires { only ascii mark.now ≡ true }
-    ensures { Lays 0 (closed_line (mark.now ++ name.now)) out.old out.new result }
+    ensures { Lays 0 (closed_line (mark.now ++ name.now)) (S.seen out.old) (S.seen out.new) result }
 {
-    let marked = Pen::START.piece(mark, out);
-    let end = marked.piece(name, out);
-    end.close(out)
+    let marked = Pen::START.piece::<S>(mark, out);
+    let end = marked.piece::<S>(name, out);
+    end.close::<S>(out)
 }
 
 // A property to be laid: the tables, its row and the number of that, and the first parameter row that may be its own.
@@ -166,7 +230,7 @@ impl<'a> Line<'a> {
     {
         let rows = ParameterRow::count(self.tables.parameters);
         for row in self.first..rows {
-            if tables::property_of(self.tables.parameters, row) as usize != self.number {
+            if ParameterRow::at(self.tables.parameters, row).property as usize != self.number {
                 return row;
             }
         }
@@ -191,29 +255,29 @@ impl<'a> Line<'a> {
     }
 
     // Lays the line but for its end. One without parameters that stands in the text from its key to its value is laid as it stands.
-    fn lay(&self, next: usize, out: &mut [u8]) -> Pen
+    fn lay<S: Sink>(&self, next: usize, out: &mut [u8]) -> Pen
         requires { next ≡ behind self.now }
-        ensures { Penned Pen.START (line_of self.now) out.old out.new result }
+        ensures { Penned Pen.START (line_of self.now) (S.seen out.old) (S.seen out.new) result }
     {
         if (next == self.first) & self.stands_whole() {
             let p = self.row;
             let length = p.key_len as usize + 1 + p.value_len as usize;
             let line = octets::view(self.tables.text, p.key_start as usize, length);
-            return Pen::START.piece(line, out);
+            return Pen::START.piece::<S>(line, out);
         }
-        let named = Pen::START.piece(self.key(), out);
-        let listed = named.parameters(self, next, out);
-        listed.after(b':', self.value(), out)
+        let named = Pen::START.piece::<S>(self.key(), out);
+        let listed = named.parameters::<S>(self, next, out);
+        listed.after::<S>(b':', self.value(), out)
     }
 
-    pub fn print(&self, out: &mut [u8]) -> Printed
-        ensures lays { Lays 0 (closed_line (line_of self.now)) out.old out.new result.length }
+    pub fn print<S: Sink>(&self, out: &mut [u8]) -> Printed
+        ensures lays { Lays 0 (closed_line (line_of self.now)) (S.seen out.old) (S.seen out.new) result.length }
         ensures next_value { result.next ≡ behind self.now }
     {
         let next = self.next();
-        let end = self.lay(next, out);
+        let end = self.lay::<S>(next, out);
         Printed {
-            length: end.close(out),
+            length: end.close::<S>(out),
             next,
         }
     }

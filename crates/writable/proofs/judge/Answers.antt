@@ -14,10 +14,10 @@ returns-in_err-judge_rows-2 c =
     let r = c.from_residual-in_err-judge_rows-2 in
     let p = err_from_is_err_and r.result r.ensures.1 in
     rw (p.1, p.2)
-    (in_properties (held c.args.tables.now) c.judge_rows.ensures c.in_ok-judge_rows.was c.component_rows-first.ensures
+    (in_properties (held c.args.tables.now) c.judge_rows.ensures c.in_ok-judge_rows.was c.count-first.ensures
     c.judge_rows-2.ensures c.in_err-judge_rows-2.was)
 
 pub returns : goal.returns
 returns c =
-    in_parameters (held c.args.tables.now) c.judge_rows.ensures c.in_ok-judge_rows.was c.component_rows-first.ensures
-    c.judge_rows-2.ensures c.in_ok-judge_rows-2.was c.property_rows.ensures c.judge_rows-3.ensures
+    in_parameters (held c.args.tables.now) c.judge_rows.ensures c.in_ok-judge_rows.was c.count-first.ensures
+    c.judge_rows-2.ensures c.in_ok-judge_rows-2.was c.count.ensures c.judge_rows-3.ensures

@@ -18,20 +18,22 @@ pub loop-row-init : goal.loop-row-init
 loop-row-init c = no_row _ 0 (omega arith)
 
 pub name_of-name-requires : goal.name_of-name-requires
-name_of-name-requires c = omega (arith, c.component_rows-row-end.ensures, length_rows component_size component_at c.args.tables.now.components.now)
+name_of-name-requires c = omega (arith, c.count-row-end.ensures, length_rows component_size component_at c.args.tables.now.components.now)
 
-pub write_mark-opened-requires : goal.write_mark-opened-requires
-write_mark-opened-requires c = begin_mark
+pub print_mark-opened-requires : goal.print_mark-opened-requires
+print_mark-opened-requires c = begin_mark
 
-pub write_mark-at-requires : goal.write_mark-at-requires
-write_mark-at-requires c = end_mark
+pub print_mark-closed-requires : goal.print_mark-closed-requires
+print_mark-closed-requires c = end_mark
 
 pub loop-row-preserved : goal.loop-row-preserved
 loop-row-preserved c =
     one_row _ 0 c.loop-row.row c.loop-row.invariant (omega (
       arith,
-      c.write_mark-opened.ensures.count,
-      c.write_mark-at.ensures.count,
+      c.print_mark-opened.ensures.count,
+      c.print_mark-closed.ensures.count,
+      c.saturating_add-at.ensures,
+      c.saturating_add.ensures,
       ap (λ (n : List ℕ). length (closed_line (begin_line n))) c.name_of-name.ensures,
       ap (λ (n : List ℕ). length (closed_line (end_line n))) c.name_of-name.ensures,
     ))
@@ -40,5 +42,5 @@ pub returns : goal.returns
 returns c =
     let t = c.args.tables.now in
     let e : c.loop-row.row ≡ length (components_in t.components.now) =
-    omega (arith, c.component_rows-row-end.ensures, length_rows component_size component_at t.components.now) in
+    omega (arith, c.count-row-end.ensures, length_rows component_size component_at t.components.now) in
     omega (arith, c.loop-row.invariant, ap (total (marks_length (held t)) 0) e)

@@ -3,10 +3,10 @@ use mathlib.Core.Path.{◌∙◌}
 use Rattle.walking.proofs.Rows.{row_there, name_is}
 use Rattle.writing.proofs.name_of.Goals as goal
 
-pub component_at-c-requires : goal.component_at-c-requires
-component_at-c-requires c = row_there c.args.tables.now.components.now c.args.row c.requires
+pub at-c-requires : goal.at-c-requires
+at-c-requires c = row_there c.args.tables.now.components.now c.args.row c.requires
 
 pub returns : goal.returns
 returns c =
     let t = c.args.tables.now in
-    c.view.ensures.bytes_value ∙ name_is t.text.now t.components.now c.args.row c.requires c.component_at-c.ensures
+    c.view.ensures.bytes_value ∙ name_is t.text.now t.components.now c.args.row c.requires c.at-c.ensures

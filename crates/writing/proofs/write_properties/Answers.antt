@@ -6,18 +6,19 @@ use Rattle.octets.proofs.Writing.{from_as}
 use Rattle.tables.specs.Rows.{property_size, property_at}
 use Rattle.tables.specs.Lent.{held, properties_in, parameters_in}
 use Rattle.tables.specs.Trees.{property_of}
+use Rattle.tables.specs.declared.PropertyRow.{PropertyRow}
 use Rattle.tables.proofs.Laws.{length_rows, row_here}
 use Rattle.printing.specs.Lines.{property_lines}
 use Rattle.walking.proofs.Found.{in_window}
 use Rattle.writing.proofs.Laws.{line_laid, line_passed, all_laid}
 use Rattle.writing.proofs.write_properties.Goals as goal
-use Rattle.writing.proofs.write_properties.Goals.{then-owner_at-row, else-owner_at-row}
+use Rattle.writing.proofs.write_properties.Goals.{then-at-row, else-at-row}
 
-pub owner_at-requires : goal.owner_at-requires
-owner_at-requires c = omega (arith, c.requires.holds.last, length_rows property_size property_at c.args.walk.now.tables.properties.now)
+pub at-requires : goal.at-requires
+at-requires c = omega (arith, c.requires.holds.last, length_rows property_size property_at c.args.walk.now.tables.properties.now)
 
-pub write_property-printed-requires-clause-there : goal.write_property-printed-requires-clause-there
-write_property-printed-requires-clause-there c = omega (arith, c.requires.holds.last, length_rows property_size property_at c.args.walk.now.tables.properties.now)
+pub line_at-requires-clause-there : goal.line_at-requires-clause-there
+line_at-requires-clause-there c = omega (arith, c.requires.holds.last, length_rows property_size property_at c.args.walk.now.tables.properties.now)
 
 pub loop-number-preserved : goal.loop-number-preserved
 loop-number-preserved c =
@@ -26,12 +27,12 @@ loop-number-preserved c =
     let here = row_here property_size property_at b.properties c.loop-number.number
     (omega (arith, c.requires.holds.last, length_rows property_size property_at b.properties)) in
     let passing = c.loop-number.invariant in
-    elim c.if-owner_at-row.branch [
-      | then-owner_at-row w ↦ rw (w.out-is, w.printed-is)
-          (line_laid passing c.loop-number-test.true p here (sym c.owner_at.ensures ∙ w.if-owner_at-row.true) (omega arith)
-          w.write_property-printed.ensures.lays w.write_property-printed.ensures.next_bound)
-      | else-owner_at-row w ↦ rw (w.out-is, w.printed-is)
-          (line_passed passing c.loop-number-test.true p here (λ o. w.if-owner_at-row.false (c.owner_at.ensures ∙ o)))
+    elim c.if-at-row.branch [
+      | then-at-row w ↦ rw (w.out-is, w.printed-is)
+          (line_laid passing c.loop-number-test.true p here (sym (ap (λ (p : PropertyRow). p.owner) c.at.ensures) ∙ w.if-at-row.true) (omega arith)
+          (from_as w.line_at.ensures.value w.write_line-printed.ensures.lays) (omega (arith, w.write_line-printed.ensures.next_value, w.line_at.ensures.next_bound)))
+      | else-at-row w ↦ rw (w.out-is, w.printed-is)
+          (line_passed passing c.loop-number-test.true p here (λ o. w.if-at-row.false (ap (λ (p : PropertyRow). p.owner) c.at.ensures ∙ o)))
     ]
 
 pub returns : goal.returns

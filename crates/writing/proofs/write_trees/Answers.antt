@@ -28,12 +28,12 @@ loop-place-init c =
 pub write_component-place-requires : goal.write_component-place-requires
 write_component-place-requires c =
     let b = held c.args.walk.now.tables in
-    placed b c.loop-place.invariant.along (omega (arith, c.component_rows-rows.ensures, length_rows component_size component_at b.components))
+    placed b c.loop-place.invariant.along (omega (arith, c.count-rows.ensures, length_rows component_size component_at b.components))
 
 pub loop-place-preserved : goal.loop-place-preserved
 loop-place-preserved c =
     let b = held c.args.walk.now.tables in
-    one_written b 63 c.loop-place.invariant (omega (arith, c.component_rows-rows.ensures, length_rows component_size component_at b.components)) (omega arith)
+    one_written b 63 c.loop-place.invariant (omega (arith, c.count-rows.ensures, length_rows component_size component_at b.components)) (omega arith)
     c.write_component-place.ensures
 
 pub returns : goal.returns
@@ -41,4 +41,4 @@ returns c =
     let w = c.args.walk.now in
     let b = held w.tables in
     from_as (ap written (sym (top_trees (comps b) (nested_of w) b.text (props b) (params b) 63)))
-    (all_written b 63 c.loop-place.invariant (omega (arith, c.component_rows-rows.ensures, length_rows component_size component_at b.components)))
+    (all_written b 63 c.loop-place.invariant (omega (arith, c.count-rows.ensures, length_rows component_size component_at b.components)))

@@ -4,4 +4,4 @@ use Rattle.printing.proofs.Pens.{closed}
 use Rattle.printing.proofs.Line.print.Goals as goal
 
 pub returns-clause-lays : goal.returns-clause-lays
-returns-clause-lays c = closed c.lay-end.ensures c.close.ensures (omega arith)
+returns-clause-lays g c = closed c.lay-end.ensures c.close.ensures (omega (arith, g.met.S.Sink.no_longer c.args.out.now))

@@ -4,4 +4,4 @@ use Rattle.printing.proofs.Pens.{behind_mark, one_mark}
 use Rattle.printing.proofs.Pen.after.Goals as goal
 
 pub returns : goal.returns
-returns c = behind_mark c.byte-marked.ensures c.piece.ensures (omega arith) (one_mark _ c.requires)
+returns g c = behind_mark c.byte-marked.ensures c.piece.ensures (omega (arith, g.met.S.Sink.no_longer c.args.out.now)) (one_mark _ c.requires)

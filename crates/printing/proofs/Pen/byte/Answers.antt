@@ -4,4 +4,4 @@ use Rattle.printing.proofs.Pens.{whole}
 use Rattle.printing.proofs.Pen.byte.Goals as goal
 
 pub returns-then-self-gt0 : goal.returns-then-self-gt0
-returns-then-self-gt0 c = whole c.if-self-gt0.true refl c.lay_byte.ensures
+returns-then-self-gt0 g c = whole c.if-self-gt0.true refl c.lay_byte.ensures

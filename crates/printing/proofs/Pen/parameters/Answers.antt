@@ -7,15 +7,15 @@ use Rattle.printing.specs.Lines.{parameter_text}
 use Rattle.printing.proofs.Pens.{inside, turn, listed, piece_as}
 use Rattle.printing.proofs.Pen.parameters.Goals as goal
 
-pub parameter_at-p-requires : goal.parameter_at-p-requires
-parameter_at-p-requires c =
+pub at-p-requires : goal.at-p-requires
+at-p-requires g c =
     let l = c.args.line.now in
     inside l.tables.now.parameters.now l.number l.first c.loop-row.invariant.along (omega arith)
 
 pub loop-row-preserved : goal.loop-row-preserved
-loop-row-preserved c =
-    turn c.loop-row.invariant (omega arith) (omega arith)
-    (piece_as (ap (λ (p : ParameterRow). parameter_text (parameter_of c.args.line.now.tables.now.text.now p)) c.parameter_at-p.ensures) c.parameter-pen.ensures)
+loop-row-preserved g c =
+    turn c.loop-row.invariant (omega arith) (omega (arith, g.met.S.Sink.no_longer c.args.out.now))
+    (piece_as (ap (λ (p : ParameterRow). parameter_text (parameter_of c.args.line.now.tables.now.text.now p)) c.at-p.ensures) c.parameter-pen.ensures)
 
 pub returns : goal.returns
-returns c = listed c.loop-row.invariant (omega arith)
+returns g c = listed c.loop-row.invariant (omega arith)

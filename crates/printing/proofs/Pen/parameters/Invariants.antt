@@ -3,4 +3,4 @@ use Rattle.printing.proofs.Pens.{Listing}
 use Rattle.printing.proofs.Pen.parameters.Given as goal
 
 abbrev pub invariant-loop-row : goal.invariant-loop-row
-invariant-loop-row l = Listing l.line l.fn.self l.fn.out l.out l.pen l.row
+invariant-loop-row g l = Listing l.line l.fn.self (g.S.Sink.seen l.fn.out) (g.S.Sink.seen l.out) l.pen l.row

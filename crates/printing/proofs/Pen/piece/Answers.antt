@@ -4,4 +4,4 @@ use Rattle.printing.proofs.Pens.{whole}
 use Rattle.printing.proofs.Pen.piece.Goals as goal
 
 pub returns-then-piece-self : goal.returns-then-piece-self
-returns-then-piece-self c = whole c.if-piece-self.true refl c.lay.ensures
+returns-then-piece-self g c = whole c.if-piece-self.true refl c.lay.ensures
