@@ -2,34 +2,34 @@
 use mathlib.Core.Path.{◌≡◌, refl, sym, ◌∙◌}
 use mathlib.Core.Bool.{true}
 use mathlib.Core.List.{List, [], ◌∷◌, ◌++◌, append_assoc, append-nil}
-use Prim.Native.Nat.{ℕ, suc, ◌+◌, ◌-◌, ◌≤◌, ◌<◌, ◌/◌, zero-le}
+use Prim.Native.Nat.{ℕ, suc, ◌+◌, ◌-◌, ◌≤◌, ◌<◌, ◌/◌, max}
 use native.Mathlib.Numerals.{add-one}
 use native.Mathlib.Omega.{arith}
-use lib.ListN.{length, get_or, drop}
+use lib.ListN.{length, get_or, drop, length-drop}
 use lib.Seq.{drop-cons, drop-drop, take-add}
-use borrow.Author.Tests.{eq-eqb, ne_eqb, le-leb}
-use Rattle.octets.specs.Laid.{most, counted, Lays}
+use borrow.Author.Tests.{eq-eqb, ne_eqb, le-leb, eqb-true}
+use Rattle.octets.specs.Laid.{most, Lays}
 use Rattle.octets.specs.Bytes.{cr, lf, quote, colon, semicolon, equals, ascii}
 use Rattle.octets.specs.Runs.{run, only}
 use Rattle.octets.specs.Words.{begin_word, end_word}
 use Rattle.octets.specs.Views.{viewed}
 use Rattle.octets.proofs.Runs.{no_run}
-use Rattle.octets.proofs.Writing.{length_from, both, from_as, from_front, counts, stays}
+use Rattle.octets.proofs.Writing.{length_from, both, from_as, stays}
 use Rattle.characters.specs.Units.{tail, units_from, units}
 use Rattle.characters.proofs.Units.{ascii_alone, before_start, behind_ascii}
 use Rattle.folding.specs.Strict.{first, folded_units, left_after}
 use Rattle.folding.proofs.Strict.{fold_append, left_append, fold_fits, left_fits}
 use Rattle.tables.specs.Rows.{parameter_size, parameter_at}
 use Rattle.tables.specs.Trees.{Parameter, present, parameter_of}
-use Rattle.tables.specs.Fronts.{front, belongs, own_parameters, own_property}
+use Rattle.tables.specs.Fronts.{belongs, own_parameters}
 use Rattle.tables.specs.Lent.{parameters_in}
-use Rattle.tables.specs.declared.PropertyRow.{PropertyRow}
 use Rattle.tables.specs.declared.ParameterRow.{ParameterRow}
-use Rattle.tables.proofs.Laws.{row_here, rows_end}
-use Rattle.tables.proofs.Fronts.{on, stop, ended, run_on, run_none}
-use Rattle.printing.specs.Lines.{closed_line, value_text, parameter_text, parameters_text, property_line}
-use Rattle.printing.specs.Pens.{Penned, behind_run}
+use Rattle.tables.proofs.Laws.{row_here, rows_end, length_rows}
+use Rattle.tables.proofs.Fronts.{on, stop, ended, run_on, run_none, within, each}
+use Rattle.printing.specs.Lines.{closed_line, value_text, parameter_text, parameters_text}
+use Rattle.printing.specs.Pens.{Penned, behind_run, behind, key_of, value_of, own_of, line_of}
 use Rattle.printing.specs.declared.Pen.{Pen}
+use Rattle.printing.specs.declared.Line.{Line}
 
 -- two pieces in turn are one, if no character reaches from one into the other
 module _ {pen mid next : Pen} {xs ys old out new : List ℕ} (p : Penned pen xs old out mid) (q : Penned mid ys out new next) (h : length old ≤ most) where
@@ -89,26 +89,18 @@ pub closed : {next : Pen} {line old out new : List ℕ} {n : ℕ} → Penned (re
     → Lays next.at (cr ∷ lf ∷ []) out new n → length old ≤ most → Lays 0 (closed_line line) old new n
 closed p q h = both p.lays q h
 
--- a line of its parts: key, parameters, and the value behind a colon
-pub parts : (text : List ℕ) (p : PropertyRow) (number first : ℕ) (rows : List ParameterRow) {key value : List ℕ}
-    → key ≡ viewed text p.key_start p.key_len → value ≡ viewed text p.value_start p.value_len
-    → (key ++ parameters_text (own_parameters text number first rows)) ++ colon ∷ value ≡ property_line (own_property text p number first rows)
-parts text p number first rows e f =
-    let q = own_property text p number first rows in rw (e, f) (append_assoc q.key (parameters_text q.parameters) (colon ∷ q.value))
+-- ---- the line of a property
 
--- and one without parameters
-pub bare : (text : List ℕ) (p : PropertyRow) (number first : ℕ) (rows : List ParameterRow) {line : List ℕ}
-    → front (belongs number) (drop first rows) ≡ 0 → line ≡ viewed text p.key_start p.key_len ++ colon ∷ viewed text p.value_start p.value_len
-    → line ≡ property_line (own_property text p number first rows)
+-- of its parts: key, parameters, and the value behind a colon
+pub parts : (l : Line) → (key_of l ++ parameters_text (own_of l)) ++ colon ∷ value_of l ≡ line_of l
+parts l = append_assoc (key_of l) (parameters_text (own_of l)) (colon ∷ value_of l)
+
+-- and without parameters
+pub bare : (l : Line) {line : List ℕ} → l.first ≡ behind l → line ≡ key_of l ++ colon ∷ value_of l → line ≡ line_of l
 unfolding parameters_text
-bare text p number first rows none e = e ∙ rw (run_none (belongs number) (drop first rows) none)
-
--- ---- without a buffer
-
--- CRLF is counted as it is laid
-pub closed_count : {next : Pen} {line : List ℕ} {n : ℕ} → Penned (record { left = first; at = 0 }) line [] [] next → n ≡ counted (next.at + 2)
-    → n ≡ counted (length (closed_line line))
-closed_count {next} p e = from_front (both p.lays (counts next.at (cr ∷ lf ∷ []) e) zero-le)
+bare l none e =
+    let rows = drop l.first (parameters_in l.tables.now.parameters.now) in
+    e ∙ rw (run_none (belongs l.number) rows (omega arith))
 
 -- two parts of a text that stand one behind the other, with a byte between them, are one part
 pub view_joins : (text : List ℕ) (start len more b : ℕ) → start + len + 1 + more ≤ length text → get_or text (start + len) 0 ≡ b
@@ -143,54 +135,99 @@ unfolding run parameters_text
 marked [] = refl
 marked (p ∷ ps) = refl
 
--- ---- the parameters of a property: those before row `next` are laid, and laying the others lays them all
+-- ---- the run of a property's parameters, row by row
 
-abbrev own_text : List ℕ → List ℕ → ℕ → ℕ → List ℕ
-own_text text table number next = parameters_text (own_parameters text number next (parameters_in table))
+module _ (table : List ℕ) (number first : ℕ) where
+  abbrev rows : List ParameterRow
+  rows = parameters_in table
 
-pub record Listing (text table : List ℕ) (number first : ℕ) (start : Pen) (old out : List ℕ) (pen : Pen) (next : ℕ) : Type 0 where
-  pub rest : {new : List ℕ} {end : Pen} → Penned pen (own_text text table number next) out new end → Penned start (own_text text table number first) old new end
+  -- the run goes on at this row
+  abbrev pub Within : ℕ → Type 0
+  Within row = behind_run number row rows ≡ behind_run number first rows
+
+  module _ {row : ℕ} (w : Within row) where
+    pub one_more : row < length table / parameter_size → (parameter_at table row).property ≡ number → Within (row + 1)
+    one_more h o =
+        omega (
+          arith,
+          w,
+          on (belongs number) (drop row rows) (drop (row + 1) rows) (parameter_at table row) (row_here parameter_size parameter_at table row h) (eq-eqb _ number o),
+        )
+
+    pub no_more : row < length table / parameter_size → ((parameter_at table row).property ≡ number → ⊥) → row ≡ behind_run number first rows
+    no_more h o =
+        omega (
+          arith,
+          w,
+          stop (belongs number) (drop row rows) (drop (row + 1) rows) (parameter_at table row) (row_here parameter_size parameter_at table row h) (ne_eqb _ number o),
+        )
+
+    pub over : length table / parameter_size ≤ row → max (length table / parameter_size) first ≡ behind_run number first rows
+    over h =
+        omega (
+          arith,
+          w,
+          ended (belongs number) (drop row rows) (rows_end parameter_size parameter_at table row h),
+          within (belongs number) (drop first rows),
+          length-drop first rows,
+          length_rows parameter_size parameter_at table,
+        )
+
+    -- a row before the end of the run is there, and is the property's own
+    pub inside : row < behind_run number first rows → row < length table / parameter_size
+    inside h =
+        omega (
+          arith,
+          w,
+          within (belongs number) (drop row rows),
+          length-drop row rows,
+          length_rows parameter_size parameter_at table,
+        )
+
+    pub own : row < behind_run number first rows → (parameter_at table row).property ≡ number
+    own h =
+        let p = parameter_at table row in
+        let here = row_here parameter_size parameter_at table row (inside h) in
+        let e : belongs number p ≡ true = rw here at (each (belongs number) (drop row rows) 0 p (omega (arith, w))) in
+        eqb-true p.property number e
+
+-- ---- the parameters of a property: those before `row` are laid, and laying the others lays them all
+
+abbrev own_text : Line → ℕ → List ℕ
+own_text l row = parameters_text (own_parameters l.tables.now.text.now l.number row (parameters_in l.tables.now.parameters.now))
+
+pub record Listing (l : Line) (start : Pen) (old out : List ℕ) (pen : Pen) (row : ℕ) : Type 0 where
+  pub rest : {new : List ℕ} {end : Pen} → Penned pen (own_text l row) out new end → Penned start (own_text l l.first) old new end
   pub same : length out ≡ length old
   pub room : pen.at ≤ most
-  pub row : behind_run number next (parameters_in table) ≡ behind_run number first (parameters_in table)
+  pub along : Within l.tables.now.parameters.now l.number l.first row
 
-pub begin : (text table : List ℕ) (number first : ℕ) (pen : Pen) (old : List ℕ) → pen.at ≤ most → Listing text table number first pen old old pen first
-begin text table number first pen old h = record { rest = λ p. p; same = refl; room = h; row = refl }
+pub begin : (l : Line) (pen : Pen) (old : List ℕ) → pen.at ≤ most → Listing l pen old old pen l.first
+begin l pen old h = record { rest = λ p. p; same = refl; room = h; along = refl }
 
-module _ {text table : List ℕ} {number first : ℕ} {start : Pen} {old out : List ℕ} {pen : Pen} {next : ℕ}
-    (l : Listing text table number first start old out pen next) where
-  -- the row at `next` is the property's own, and it is laid
-  pub turn : next < length table / parameter_size → {p : ParameterRow} → p ≡ parameter_at table next → p.property ≡ number → length old ≤ most
-      → {now : List ℕ} {end : Pen} → Penned pen (parameter_text (parameter_of text p)) out now end → Listing text table number first start old now end (next + 1)
+module _ {l : Line} {start : Pen} {old out : List ℕ} {pen : Pen} {row : ℕ} (s : Listing l start old out pen row) where
+  -- the row is laid
+  pub turn : row < behind l → length old ≤ most
+      → {new : List ℕ} {end : Pen} → Penned pen (parameter_text (parameter_of l.tables.now.text.now (parameter_at l.tables.now.parameters.now row))) out new end → Listing l start old new end (row + 1)
   unfolding parameters_text
-  turn h {p} e o k {now} {end} laid =
+  turn h k {new} {end} laid =
+      let table = l.tables.now.parameters.now in
       let rows = parameters_in table in
-      let here : drop next rows ≡ p ∷ drop (next + 1) rows = rw e (row_here parameter_size parameter_at table next h) in
-      let own : belongs number p ≡ true = eq-eqb p.property number o in
-      let own_text_holds = run_on (belongs number) (drop next rows) (drop (next + 1) rows) p here own in
-      let count = on (belongs number) (drop next rows) (drop (next + 1) rows) p here own in
+      let p = parameter_at table row in
+      let there = inside table l.number l.first s.along h in
+      let its = own table l.number l.first s.along h in
+      let here = row_here parameter_size parameter_at table row there in
+      let own_text_holds = run_on (belongs l.number) (drop row rows) (drop (row + 1) rows) p here (eq-eqb p.property l.number its) in
       record {
-        rest = λ q. l.rest (rw own_text_holds (before_mark laid q (omega (arith, l.same)) (marked (own_parameters text number (next + 1) rows))));
-        same = rw laid.lays.is (length_from pen.at (folded_units pen.left (units (parameter_text (parameter_of text p)))) out ∙ l.same);
+        rest = λ q. s.rest (rw own_text_holds (before_mark laid q (omega (arith, s.same)) (marked (own_parameters l.tables.now.text.now l.number (row + 1) rows))));
+        same = rw laid.lays.is (length_from pen.at (folded_units pen.left (units (parameter_text (parameter_of l.tables.now.text.now p)))) out ∙ s.same);
         room = omega (arith, laid.lays.count);
-        row = omega (arith, count, l.row);
+        along = one_more table l.number l.first s.along there its;
       }
 
-  -- no other row is
-  ends : front (belongs number) (drop next (parameters_in table)) ≡ 0
-      → Penned start (own_text text table number first) old out pen × (next ≡ behind_run number first (parameters_in table))
+  -- and no other is left
+  pub listed : behind l ≤ row → Penned start (parameters_text (own_of l)) old out pen
   unfolding parameters_text
-  ends none = (
-    l.rest (rw (run_none (belongs number) (drop next (parameters_in table)) none) (nothing pen out l.room)),
-    omega (arith, l.row),
-  )
-
-  pub other : next < length table / parameter_size → {p : ParameterRow} → p ≡ parameter_at table next → (p.property ≡ number → ⊥)
-      → Penned start (own_text text table number first) old out pen × (next ≡ behind_run number first (parameters_in table))
-  other h {p} e o =
-      ends (stop (belongs number) (drop next (parameters_in table)) (drop (next + 1) (parameters_in table)) p
-      (rw e (row_here parameter_size parameter_at table next h)) (ne_eqb p.property number o))
-
-  pub over : length table / parameter_size ≤ next
-      → Penned start (own_text text table number first) old out pen × (next ≡ behind_run number first (parameters_in table))
-  over h = ends (ended (belongs number) (drop next (parameters_in table)) (rows_end parameter_size parameter_at table next h))
+  listed h =
+      let rows = drop row (parameters_in l.tables.now.parameters.now) in
+      s.rest (rw (run_none (belongs l.number) rows (omega (arith, s.along))) (nothing pen out s.room))

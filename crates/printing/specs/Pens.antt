@@ -1,14 +1,17 @@
--- Serves inner contracts only. A line that is laid piece by piece: how many octets the present physical line still takes, how far the buffer is filled, and which parameters are its own.
+-- Serves inner contracts only. A line that is laid piece by piece: how many octets the present physical line still takes, how far the buffer is filled, and what a property's line is made of.
 -- Assumes nothing.
 use Rattle.std.specs.Prelude.{ℕ, ◌+◌, ◌≡◌, List, drop}
 use Rattle.octets.specs.Laid.{Lays}
+use Rattle.octets.specs.Views.{viewed}
 use Rattle.characters.specs.Units.{units}
 use Rattle.folding.specs.Strict.{folded_units, left_after}
-use Rattle.tables.specs.Fronts.{front, belongs, own_property}
-use Rattle.tables.specs.declared.PropertyRow.{PropertyRow}
+use Rattle.tables.specs.Trees.{Parameter}
+use Rattle.tables.specs.Lent.{parameters_in}
+use Rattle.tables.specs.Fronts.{front, belongs, own_parameters, own_property}
 use Rattle.tables.specs.declared.ParameterRow.{ParameterRow}
-use Rattle.printing.specs.Lines.{closed_line, property_line}
+use Rattle.printing.specs.Lines.{property_line}
 use Rattle.printing.specs.declared.Pen.{Pen}
+use Rattle.printing.specs.declared.Line.{Line}
 
 -- from the pen on a piece was laid, folded strictly: `old` was in the buffer, `new` is there now, and the pen stands behind the piece
 pub record Penned (pen : Pen) (piece old new : List ℕ) (next : Pen) : Type 0 where
@@ -19,6 +22,19 @@ pub record Penned (pen : Pen) (piece old new : List ℕ) (next : Pen) : Type 0 w
 abbrev pub behind_run : ℕ → ℕ → List ParameterRow → ℕ
 behind_run property first rows = first + front (belongs property) (drop first rows)
 
--- the line of a property row with the parameters of the run
-abbrev pub printed_line : List ℕ → PropertyRow → ℕ → ℕ → List ParameterRow → List ℕ
-printed_line text p number first rows = closed_line (property_line (own_property text p number first rows))
+abbrev pub behind : Line → ℕ
+behind l = behind_run l.number l.first (parameters_in l.tables.now.parameters.now)
+
+-- a property's key, its value, and the parameters of the run
+abbrev pub key_of : Line → List ℕ
+key_of l = viewed l.tables.now.text.now l.row.key_start l.row.key_len
+
+abbrev pub value_of : Line → List ℕ
+value_of l = viewed l.tables.now.text.now l.row.value_start l.row.value_len
+
+abbrev pub own_of : Line → List Parameter
+own_of l = own_parameters l.tables.now.text.now l.number l.first (parameters_in l.tables.now.parameters.now)
+
+-- its line, before it is folded
+abbrev pub line_of : Line → List ℕ
+line_of l = property_line (own_property l.tables.now.text.now l.row l.number l.first (parameters_in l.tables.now.parameters.now))

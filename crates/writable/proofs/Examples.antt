@@ -11,29 +11,42 @@ use Rattle.parameters.specs.Values.{quoted_len, further_after, form_of}
 use Rattle.tables.specs.Rows.{tabulate, component_from, property_from, parameter_from}
 use Rattle.tables.specs.Lent.{lent}
 use Rattle.writable.specs.WritingRule.{component_verdict, property_verdict, parameter_verdict, judged_from, judged_in}
-use Rattle.writable.specs.declared.Verdict.{Verdict}
-use Rattle.writable.specs.declared.Verdict.TheVariants.{Fine, Unwritable, NotUtf8}
-use Rattle.writable.specs.declared.Judged.{Judged}
+use Rattle.std.specs.Prelude.{Result, Ok, Err}
+use Rattle.writable.specs.declared.Fault.{Fault}
+use Rattle.writable.specs.declared.Fault.TheVariants.{Unwritable, NotUtf8}
+use Rattle.writable.specs.declared.Unfit.{Unfit}
+
+abbrev Told : Type 0
+Told = Result (Unit {0}) Fault
+
+abbrev fine : Told
+fine = Ok tt
+
+abbrev unwritable : Told
+unwritable = Err Unwritable
+
+abbrev not_utf8 : Told
+not_utf8 = Err NotUtf8
 
 -- a name or a key, a value, and what a row of them is found to be
 record Case : Type 0 where
   key : List ℕ
   value : List ℕ
-  told : Verdict
+  told : Told
 
-abbrev row : List ℕ → List ℕ → Verdict → Case
+abbrev row : List ℕ → List ℕ → Told → Case
 row key value told = record { key = key; value = value; told = told }
 
-abbrev answer : Case → Verdict
+abbrev answer : Case → Told
 answer c = c.told
 
-abbrev component : Case → Verdict
+abbrev component : Case → Told
 component c = component_verdict c.key (component_from (0 ∷ 1 ∷ 0 ∷ length c.key ∷ []) 0)
 
-abbrev property : Case → Verdict
+abbrev property : Case → Told
 property c = property_verdict (c.key ++ c.value) (property_from (0 ∷ 0 ∷ length c.key ∷ length c.key ∷ length c.value ∷ []) 0)
 
-abbrev parameter : Case → Verdict
+abbrev parameter : Case → Told
 parameter c = parameter_verdict (c.key ++ c.value) (parameter_from (0 ∷ 0 ∷ length c.key ∷ 1 ∷ length c.key ∷ length c.value ∷ []) 0)
 
 -- `END`, `Begin` and `BEGINNING`
@@ -53,56 +66,56 @@ k = 75 ∷ []
 -- an empty name, two words, a byte of 128 and more in a name; END is a name
 abbrev components : List Case
 components =
-    row [] [] Unwritable
-    ∷ row end [] Fine
-    ∷ row (86 ∷ 45 ∷ 46 ∷ 44 ∷ 47 ∷ 95 ∷ 57 ∷ []) [] Fine
-    ∷ row (65 ∷ 32 ∷ 66 ∷ []) [] Unwritable
-    ∷ row (65 ∷ 200 ∷ []) [] Unwritable
+    row [] [] unwritable
+    ∷ row end [] fine
+    ∷ row (86 ∷ 45 ∷ 46 ∷ 44 ∷ 47 ∷ 95 ∷ 57 ∷ []) [] fine
+    ∷ row (65 ∷ 32 ∷ 66 ∷ []) [] unwritable
+    ∷ row (65 ∷ 200 ∷ []) [] unwritable
     ∷ []
 
 -- no key BEGIN or END in any case; a value may be empty and may hold quotes, and accents; a break wins over a value that is not UTF-8, and so does a key
 abbrev properties : List Case
 properties =
-    row [] k Unwritable
-    ∷ row end k Unwritable
-    ∷ row begin k Unwritable
-    ∷ row beginning k Fine
-    ∷ row (75 ∷ 58 ∷ []) k Unwritable
-    ∷ row k [] Fine
-    ∷ row k (34 ∷ 58 ∷ 127 ∷ []) Fine
-    ∷ row k (97 ∷ 13 ∷ []) Unwritable
-    ∷ row k (10 ∷ 97 ∷ []) Unwritable
-    ∷ row k (83 ∷ 195 ∷ 163 ∷ 111 ∷ []) Fine
-    ∷ row k (97 ∷ 128 ∷ []) NotUtf8
-    ∷ row k (83 ∷ 195 ∷ []) NotUtf8
-    ∷ row k (195 ∷ 163 ∷ 13 ∷ []) Unwritable
-    ∷ row k (200 ∷ 10 ∷ []) Unwritable
-    ∷ row k (13 ∷ 200 ∷ []) Unwritable
-    ∷ row begin (200 ∷ []) Unwritable
+    row [] k unwritable
+    ∷ row end k unwritable
+    ∷ row begin k unwritable
+    ∷ row beginning k fine
+    ∷ row (75 ∷ 58 ∷ []) k unwritable
+    ∷ row k [] fine
+    ∷ row k (34 ∷ 58 ∷ 127 ∷ []) fine
+    ∷ row k (97 ∷ 13 ∷ []) unwritable
+    ∷ row k (10 ∷ 97 ∷ []) unwritable
+    ∷ row k (83 ∷ 195 ∷ 163 ∷ 111 ∷ []) fine
+    ∷ row k (97 ∷ 128 ∷ []) not_utf8
+    ∷ row k (83 ∷ 195 ∷ []) not_utf8
+    ∷ row k (195 ∷ 163 ∷ 13 ∷ []) unwritable
+    ∷ row k (200 ∷ 10 ∷ []) unwritable
+    ∷ row k (13 ∷ 200 ∷ []) unwritable
+    ∷ row begin (200 ∷ []) unwritable
     ∷ []
 
 -- any key of key bytes; `a,b` and `a:b`; `""`, `"a"`, `a"b`, `"a",b` and `"a","b",` are no lists, `"a","b"` is one
 abbrev parameters : List Case
 parameters =
-    row [] k Fine
-    ∷ row begin k Fine
-    ∷ row (75 ∷ 61 ∷ []) k Unwritable
-    ∷ row k [] Unwritable
-    ∷ row k (97 ∷ 44 ∷ 98 ∷ []) Fine
-    ∷ row k (97 ∷ 58 ∷ 98 ∷ []) Fine
-    ∷ row k (34 ∷ 34 ∷ []) Unwritable
-    ∷ row k (34 ∷ 97 ∷ 34 ∷ []) Unwritable
-    ∷ row k (97 ∷ 34 ∷ 98 ∷ []) Unwritable
-    ∷ row k (34 ∷ 97 ∷ 34 ∷ 44 ∷ 98 ∷ []) Unwritable
-    ∷ row k (34 ∷ 97 ∷ 34 ∷ 44 ∷ 34 ∷ 98 ∷ 34 ∷ 44 ∷ []) Unwritable
-    ∷ row k (34 ∷ 97 ∷ 34 ∷ 44 ∷ 34 ∷ 98 ∷ 34 ∷ []) Fine
-    ∷ row k (34 ∷ 97 ∷ 34 ∷ 44 ∷ 34 ∷ 13 ∷ 34 ∷ []) Unwritable
-    ∷ row k (34 ∷ 97 ∷ 34 ∷ 44 ∷ 34 ∷ 200 ∷ 34 ∷ []) NotUtf8
-    ∷ row k (197 ∷ 129 ∷ []) Fine
-    ∷ row k (34 ∷ 97 ∷ 34 ∷ 44 ∷ 34 ∷ 230 ∷ 157 ∷ 142 ∷ 34 ∷ []) Fine
-    ∷ row k (200 ∷ []) NotUtf8
-    ∷ row k (200 ∷ 34 ∷ []) Unwritable
-    ∷ row k (97 ∷ 13 ∷ []) Unwritable
+    row [] k fine
+    ∷ row begin k fine
+    ∷ row (75 ∷ 61 ∷ []) k unwritable
+    ∷ row k [] unwritable
+    ∷ row k (97 ∷ 44 ∷ 98 ∷ []) fine
+    ∷ row k (97 ∷ 58 ∷ 98 ∷ []) fine
+    ∷ row k (34 ∷ 34 ∷ []) unwritable
+    ∷ row k (34 ∷ 97 ∷ 34 ∷ []) unwritable
+    ∷ row k (97 ∷ 34 ∷ 98 ∷ []) unwritable
+    ∷ row k (34 ∷ 97 ∷ 34 ∷ 44 ∷ 98 ∷ []) unwritable
+    ∷ row k (34 ∷ 97 ∷ 34 ∷ 44 ∷ 34 ∷ 98 ∷ 34 ∷ 44 ∷ []) unwritable
+    ∷ row k (34 ∷ 97 ∷ 34 ∷ 44 ∷ 34 ∷ 98 ∷ 34 ∷ []) fine
+    ∷ row k (34 ∷ 97 ∷ 34 ∷ 44 ∷ 34 ∷ 13 ∷ 34 ∷ []) unwritable
+    ∷ row k (34 ∷ 97 ∷ 34 ∷ 44 ∷ 34 ∷ 200 ∷ 34 ∷ []) not_utf8
+    ∷ row k (197 ∷ 129 ∷ []) fine
+    ∷ row k (34 ∷ 97 ∷ 34 ∷ 44 ∷ 34 ∷ 230 ∷ 157 ∷ 142 ∷ 34 ∷ []) fine
+    ∷ row k (200 ∷ []) not_utf8
+    ∷ row k (200 ∷ 34 ∷ []) unwritable
+    ∷ row k (97 ∷ 13 ∷ []) unwritable
     ∷ []
 
 named : map component components ≡ map answer components
@@ -133,30 +146,33 @@ given at = 0 ∷ 0 ∷ 0 ∷ 1 ∷ at ∷ 1 ∷ []
 abbrev bare : List ℕ
 bare = 0 ∷ 0 ∷ 1 ∷ 0 ∷ 0 ∷ 0 ∷ []
 
+abbrev unfit : ℕ → Fault → Result (Unit {0}) Unfit
+unfit row fault = Err (record { row = row; fault = fault })
+
 record Tables : Type 0 where
   three : List ℕ × (List ℕ × List ℕ)
-  told : Judged
+  told : Result (Unit {0}) Unfit
 
-abbrev tables : List ℕ → List ℕ → List ℕ → Judged → Tables
+abbrev tables : List ℕ → List ℕ → List ℕ → Result (Unit {0}) Unfit → Tables
 tables c p q told = record { three = (c, (p, q)); told = told }
 
-abbrev judge : Tables → Judged
+abbrev judge : Tables → Result (Unit {0}) Unfit
 judge t = judged_in (lent text t.three.0 t.three.1.0 t.three.1.1)
 
-abbrev judged : Tables → Judged
+abbrev judged : Tables → Result (Unit {0}) Unfit
 judged t = t.told
 
 -- rows are numbered through the three tables, the first one is told, and words that are no whole row are none
 abbrev cases : List Tables
 cases =
-    tables top (line 0) (bare ++ given 0) Judged.Writable
-    ∷ tables (top ++ top) (line 0 ++ line 2) (given 1) (Judged.NotUtf8 3)
-    ∷ tables (top ++ top) (line 0 ++ line 1) (given 2) (Judged.Unwritable 3)
-    ∷ tables (top ++ top) (line 0 ++ line 0) (given 2 ++ given 1) (Judged.NotUtf8 4)
-    ∷ tables top (line 0) (bare ++ given 1) (Judged.Unwritable 3)
-    ∷ tables (top ++ (0 ∷ 2 ∷ 1 ∷ 1 ∷ [])) (line 2) (given 1) (Judged.Unwritable 1)
-    ∷ tables (0 ∷ 2 ∷ 3 ∷ 1 ∷ []) (line 2) [] (Judged.Unwritable 0)
-    ∷ tables (top ++ (0 ∷ 2 ∷ 1 ∷ [])) (line 0 ++ (0 ∷ 0 ∷ [])) [] Judged.Writable
+    tables top (line 0) (bare ++ given 0) (Ok tt)
+    ∷ tables (top ++ top) (line 0 ++ line 2) (given 1) (unfit 3 NotUtf8)
+    ∷ tables (top ++ top) (line 0 ++ line 1) (given 2) (unfit 3 Unwritable)
+    ∷ tables (top ++ top) (line 0 ++ line 0) (given 2 ++ given 1) (unfit 4 NotUtf8)
+    ∷ tables top (line 0) (bare ++ given 1) (unfit 3 Unwritable)
+    ∷ tables (top ++ (0 ∷ 2 ∷ 1 ∷ 1 ∷ [])) (line 2) (given 1) (unfit 1 Unwritable)
+    ∷ tables (0 ∷ 2 ∷ 3 ∷ 1 ∷ []) (line 2) [] (unfit 0 Unwritable)
+    ∷ tables (top ++ (0 ∷ 2 ∷ 1 ∷ [])) (line 0 ++ (0 ∷ 0 ∷ [])) [] (Ok tt)
     ∷ []
 
 told : map judge cases ≡ map judged cases

@@ -1,1 +1,2 @@
 pub mod WritingRule
+pub mod Views

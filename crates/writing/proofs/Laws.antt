@@ -11,13 +11,14 @@ use Rattle.tables.specs.Fronts.{front}
 use Rattle.tables.specs.Lent.{Lent, components_in, properties_in, parameters_in, tree_in, name_in}
 use Rattle.tables.specs.declared.PropertyRow.{PropertyRow}
 use Rattle.tables.specs.declared.ParameterRow.{ParameterRow}
-use Rattle.walking.specs.Walk.{end_of, held_before, Reached}
+use Rattle.walking.specs.Walk.{end_of, held_before}
 use Rattle.walking.specs.declared.Cursor.{Cursor}
 use Rattle.walking.proofs.Walks.{held_rises}
 use Rattle.walking.proofs.Own.{own_from, own_here, other_here, no_more}
-use Rattle.walking.proofs.Along.{comps, props, params, Along, onward, trees_from, first_ahead, none_ahead}
+use Rattle.walking.proofs.Along.{comps, Along, onward, trees_from, first_ahead, none_ahead}
 use Rattle.printing.specs.Lines.{closed_line, end_line, property_line, property_lines, written}
-use Rattle.writing.specs.Places.{head_in}
+use Rattle.writing.specs.Places.{head_in, Wrote}
+use Rattle.writing.specs.declared.Place.{Place}
 
 -- a front that is lent from a place on, and counted on from there
 pub lent_rest : {at from n r : ℕ} {bytes old part : List ℕ} → from ≡ min at (length old)
@@ -97,30 +98,29 @@ module _ (b : Lent) (level : ℕ) where
   unfolding written
   no_bytes parent from to h = ap written (none_ahead b level parent from to h)
 
-  -- the siblings up to `row` are written; `old` was in the buffer at first and `from` was the place
-  pub record Going (parent d first last : ℕ) (from : ℕ) (old out : List ℕ) (row at : ℕ) (cursor : Cursor) : Type 0 where
-    pub along : Along b parent d first last row cursor
-    pub counts : at ≤ most
-    pub writing : Writing from old (sibling_bytes parent first last) out (sibling_bytes parent row last) at
+  -- the siblings up to the place are written; `old` was in the buffer at first and `from` was the place in it
+  pub record Going (parent d first last : ℕ) (from : ℕ) (old out : List ℕ) (place : Place) : Type 0 where
+    pub along : Along b parent d first last place.row place.cursor
+    pub counts : place.at ≤ most
+    pub writing : Writing from old (sibling_bytes parent first last) out (sibling_bytes parent place.row last) place.at
 
-  pub going : {parent d first last : ℕ} (from : ℕ) (old : List ℕ) {cursor : Cursor} → Along b parent d first last first cursor → from ≤ most
-      → Going parent d first last from old old first from cursor
-  going from old a n = record { along = a; counts = n; writing = start from old _ }
+  pub going : {parent d first last : ℕ} (old : List ℕ) {place : Place} → place.row ≡ first → Along b parent d first last first place.cursor → place.at ≤ most
+      → Going parent d first last place.at old old place
+  going old {place} e a n = record { along = rw e a; counts = n; writing = rw e (start place.at old _) }
 
-  module _ {parent d first last from row at : ℕ} {old out : List ℕ} {cursor : Cursor} (g : Going parent d first last from old out row at cursor)
-      (h : row < last) (room : length old ≤ most) where
-    pub one_written : {new : List ℕ} {at' end : ℕ} {cursor' : Cursor} → Lays at (written (tree_in b level row)) out new at'
-        → end ≡ end_of (comps b) row → Reached (props b) (params b) cursor' end → Going parent d first last from old new end at' cursor'
-    one_written l e r =
+  module _ {parent d first last from : ℕ} {old out : List ℕ} {place : Place} (g : Going parent d first last from old out place)
+      (h : place.row < last) (room : length old ≤ most) where
+    pub one_written : {new : List ℕ} {behind : Place} → Wrote b level place out new behind → Going parent d first last from old new behind
+    one_written w =
         record {
-          along = onward b g.along h e r;
-          counts = omega (arith, l.count);
-          writing = rw e (more g.writing room _ _ (first_bytes g.along h) l);
+          along = onward b g.along h w.end w.reached;
+          counts = omega (arith, w.lays.count);
+          writing = rw w.end (more g.writing room _ _ (first_bytes g.along h) w.lays);
         }
 
-  pub all_written : {parent d first last from row at : ℕ} {old out : List ℕ} {cursor : Cursor} → Going parent d first last from old out row at cursor
-      → last ≤ row → Lays from (sibling_bytes parent first last) old out at
-  all_written {parent} {last = last} {row = row} {at = at} {out = out} g h = end (rw (no_bytes parent row last h) at g.writing) (stays at out g.counts)
+  pub all_written : {parent d first last from : ℕ} {old out : List ℕ} {place : Place} → Going parent d first last from old out place
+      → last ≤ place.row → Lays from (sibling_bytes parent first last) old out place.at
+  all_written {parent} {last = last} {out = out} {place = place} g h = end (rw (no_bytes parent place.row last h) at g.writing) (stays place.at out g.counts)
 
 -- a component in its three parts
 pub component_bytes : (b : Lent) (level row : ℕ)

@@ -11,7 +11,7 @@ use Rattle.tables.specs.Rows.{property_size, property_at}
 use Rattle.tables.specs.Lent.{Lent, components_in, properties_in, parameters_in, broken_in}
 use Rattle.tables.specs.Trees.{Property, Trees, property_of, properties_of}
 use Rattle.tables.specs.declared.PropertyRow.{PropertyRow}
-use Rattle.tables.specs.declared.Found.TheVariants.{Nothing}
+use Rattle.std.specs.Prelude.{None}
 use Rattle.tables.proofs.Rule.{meets}
 use Rattle.tables.proofs.Laws.{length_rows, get_d_tabulate}
 use Rattle.walking.specs.Walk.{owned_by}
@@ -44,7 +44,7 @@ by_bytes =
 
 module _ (b : Lent) where
   abbrev line_of : ℕ → ℕ
-  line_of = line_length b.text b.properties b.parameters
+  line_of = line_length b
 
   -- the lines of a component's properties weigh what its rows weigh
   its_lines : (component : ℕ) → length (property_lines (properties_of b.text (properties_in b.properties) (parameters_in b.parameters) component))
@@ -63,16 +63,16 @@ module _ (b : Lent) where
           (length-append (closed_line (property_line (property_of b.text (parameters_in b.parameters) i (property_at b.properties i)))) (property_lines rest))
 
   -- so the trees are as long as all rows together
-  pub rows_long : broken_in b ≡ Nothing
+  pub rows_long : broken_in b ≡ None
       → length (written_in b)
-      ≡ total (marks_length b.text b.components) 0 (length (components_in b.components))
-      + total (line_length b.text b.properties b.parameters) 0 (length (properties_in b.properties))
+      ≡ total (marks_length b) 0 (length (components_in b.components))
+      + total (line_length b) 0 (length (properties_in b.properties))
   rows_long fits =
       let m = meets (length b.text) (components_in b.components) (properties_in b.properties) (parameters_in b.parameters) fits in
       let n = length (components_in b.components) in
       all_weigh by_bytes b.text (components_in b.components) (properties_in b.properties) (parameters_in b.parameters) (length b.text) m.components_fit
-      ∙ (total_sum (marks_length b.text b.components) _ 0 n
-      ∙ ap (λ (k : ℕ). total (marks_length b.text b.components) 0 n + k)
+      ∙ (total_sum (marks_length b) _ 0 n
+      ∙ ap (λ (k : ℕ). total (marks_length b) 0 n + k)
       (total_same _ (λ (row : ℕ). weight_in (owned_by row) line_of 0 (properties_in b.properties)) its_lines 0 n
       ∙ nothing_lost (λ (p : PropertyRow). p.owner) line_of n (properties_in b.properties) (owners_there _ _ _ (properties_in b.properties) m.properties_fit)))
 
