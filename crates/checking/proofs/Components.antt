@@ -11,7 +11,7 @@ use Rattle.tables.specs.Rows.{component_size, component_at}
 use Rattle.tables.specs.TableRule.{component_fits, opens_after, broken_component}
 use Rattle.tables.specs.Lent.{components_in}
 use Rattle.tables.specs.declared.ComponentRow.{ComponentRow}
-use Rattle.tables.specs.declared.Found.TheVariants.{Nothing, At}
+use Rattle.std.specs.Prelude.{Some, None}
 use Rattle.checking.specs.Chains.{chain}
 use Rattle.checking.proofs.Chains.{Standing, placed, opens_after_holds, standing}
 use Rattle.checking.proofs.Passing.{Passed, start, fitting, breaking, end}
@@ -31,11 +31,11 @@ module _ (size : ℕ) (table : List ℕ) where
       }
 
   module _ {rows : List ℕ} {d row : ℕ} (r : Reached rows d row) where
-    pub none : length table / component_size ≤ row → Nothing ≡ broken_component size 0 [] (components_in table)
+    pub none : length table / component_size ≤ row → None ≡ broken_component size 0 [] (components_in table)
     none h = end r.passed h
 
     module _ (h : row < length table / component_size) (c : ComponentRow) (e : c ≡ component_at table row) where
-      pub breaks : component_fits size (chain rows d) c ≡ false → At row ≡ broken_component size 0 [] (components_in table)
+      pub breaks : component_fits size (chain rows d) c ≡ false → Some row ≡ broken_component size 0 [] (components_in table)
       breaks t = rw zero-add at (breaking r.passed h e t)
 
       pub more : component_fits size (chain rows d) c ≡ true → Reached (set rows (c.depth - 1) row) c.depth (row + 1)

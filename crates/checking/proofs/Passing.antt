@@ -7,7 +7,7 @@ use native.Mathlib.Nat.{add-zero, add_assoc}
 use lib.ListN.{length, drop}
 use Rattle.tables.specs.Rows.{rows_of}
 use Rattle.tables.specs.TableRule.{first_broken}
-use Rattle.tables.specs.declared.Found.TheVariants.{Nothing, At}
+use Rattle.std.specs.Prelude.{Some, None}
 use Rattle.tables.proofs.Rule.{on, stop, ended}
 use Rattle.tables.proofs.Laws.{row_here, rows_end}
 
@@ -20,7 +20,7 @@ module _ {S A : Type 0} {fits : S → A → Bool} {after : ℕ → S → A → S
   start = record { is = rw add-zero }
 
   module _ {i : ℕ} {seen : S} (p : Passed fits after size at table first seen₀ i seen) where
-    pub end : length table / size ≤ i → Nothing ≡ first_broken fits after first seen₀ (rows_of size at table)
+    pub end : length table / size ≤ i → None ≡ first_broken fits after first seen₀ (rows_of size at table)
     end h = sym (ended fits after (first + i) seen (drop i (rows_of size at table)) (rows_end size at table i h)) ∙ p.is
 
     -- x is row i
@@ -36,5 +36,5 @@ module _ {S A : Type 0} {fits : S → A → Bool} {after : ℕ → S → A → S
                 (sym (on fits after (first + i) seen (drop i (rows_of size at table)) (drop (i + 1) (rows_of size at table)) x here t) ∙ p.is);
           }
 
-      pub breaking : fits seen x ≡ false → At (first + i) ≡ first_broken fits after first seen₀ (rows_of size at table)
+      pub breaking : fits seen x ≡ false → Some (first + i) ≡ first_broken fits after first seen₀ (rows_of size at table)
       breaking t = sym (stop fits after (first + i) seen (drop i (rows_of size at table)) (drop (i + 1) (rows_of size at table)) x here t) ∙ p.is

@@ -8,7 +8,7 @@ ghost use Rattle.tables.specs.TableRule.{inside, parent_fits, depth_fits, compon
 ghost use Rattle.tables.specs.Lent.{lent, broken_in, components_in, properties_in, parameters_in};
 ghost use Rattle.checking.specs.Chains.{chain, Rising};
 
-use tables::{ComponentRow, Found, ParameterRow, PropertyRow};
+use tables::{ComponentRow, ParameterRow, PropertyRow};
 
 // Whether a view lies inside a text of so many bytes.
 fn inside(size: usize, start: u32, len: u32) -> bool
@@ -74,58 +74,49 @@ fn parameter_fits(size: usize, properties: usize, before: u32, p: ParameterRow) 
 }
 
 // The first component row that does not fit. The row before the one at hand and its ancestors stand in the places of their depths.
-fn broken_component(size: usize, table: &[u32]) -> Found
+fn broken_component(size: usize, table: &[u32]) -> Option<usize>
     ensures { result ≡ broken_component size 0 [] (components_in table.now) }
 {
-    let n = tables::component_rows(table);
     let mut rows = [0usize; 64];
     let mut depth: usize = 0;
-    let mut row: usize = 0;
-    while row < n {
+    for row in 0..tables::component_rows(table) {
         let c = tables::component_at(table, row);
         if !component_fits(size, &rows, depth, c) {
-            return Found::At(row);
+            return Some(row);
         }
         depth = c.depth as usize;
         rows[depth - 1] = row;
-        row += 1;
     }
-    Found::Nothing
+    None
 }
 
 // The first property row that does not fit; the rows are numbered on from the components.
-fn broken_property(size: usize, components: usize, table: &[u32]) -> Found
+fn broken_property(size: usize, components: usize, table: &[u32]) -> Option<usize>
     requires { components + length table.now / property_size ≤ most }
     ensures { result ≡ broken_property size components components (properties_in table.now) }
 {
-    let n = tables::property_rows(table);
-    let mut row: usize = 0;
-    while row < n {
+    for row in 0..tables::property_rows(table) {
         if !property_fits(size, components, tables::property_at(table, row)) {
-            return Found::At(components + row);
+            return Some(components + row);
         }
-        row += 1;
     }
-    Found::Nothing
+    None
 }
 
 // The first parameter row that does not fit; the rows are numbered from `first` on.
-fn broken_parameter(size: usize, properties: usize, first: usize, table: &[u32]) -> Found
+fn broken_parameter(size: usize, properties: usize, first: usize, table: &[u32]) -> Option<usize>
     requires { first + length table.now / parameter_size ≤ most }
     ensures { result ≡ broken_parameter size properties first 0 (parameters_in table.now) }
 {
-    let n = tables::parameter_rows(table);
     let mut before: u32 = 0;
-    let mut row: usize = 0;
-    while row < n {
+    for row in 0..tables::parameter_rows(table) {
         let p = tables::parameter_at(table, row);
         if !parameter_fits(size, properties, before, p) {
-            return Found::At(first + row);
+            return Some(first + row);
         }
         before = p.property;
-        row += 1;
     }
-    Found::Nothing
+    None
 }
 
 // The first row that breaks the table rule, numbered through the three tables, components first. No component at all is row 0.
@@ -134,26 +125,23 @@ pub fn first_broken(
     components: &[u32],
     properties: &[u32],
     parameters: &[u32],
-) -> Found
+) -> Option<usize>
     ensures { result ≡ broken_in (lent text.now components.now properties.now parameters.now) }
 {
+    let size = text.len();
     let component_rows = tables::component_rows(components);
-    if component_rows == 0 {
-        return Found::At(0);
-    }
-    let component = broken_component(text.len(), components);
-    let Found::Nothing = component else {
-        return component;
-    };
-    let property = broken_property(text.len(), component_rows, properties);
-    let Found::Nothing = property else {
-        return property;
-    };
     let property_rows = tables::property_rows(properties);
-    broken_parameter(
-        text.len(),
-        property_rows,
-        component_rows + property_rows,
-        parameters,
-    )
+    if component_rows == 0 {
+        return Some(0);
+    }
+    broken_component(size, components)
+        .or_else(|| broken_property(size, component_rows, properties))
+        .or_else(|| {
+            broken_parameter(
+                size,
+                property_rows,
+                component_rows + property_rows,
+                parameters,
+            )
+        })
 }

@@ -11,8 +11,7 @@ use Rattle.tables.specs.Trees.{Trees, none, tree, absent, present, gather, fores
 use Rattle.tables.specs.declared.ComponentRow.{ComponentRow}
 use Rattle.tables.specs.declared.PropertyRow.{PropertyRow}
 use Rattle.tables.specs.declared.ParameterRow.{ParameterRow}
-use Rattle.tables.specs.declared.Found.{Found}
-use Rattle.tables.specs.declared.Found.TheVariants.{Nothing, At}
+use Rattle.std.specs.Prelude.{Option, Some, None}
 
 abbrev component : ℕ → ℕ → ℕ → ℕ → ComponentRow
 component p d s l = record { parent = p; depth = d; name_start = s; name_len = l }
@@ -27,23 +26,23 @@ record Case : Type 0 where
   components : List ComponentRow
   properties : List PropertyRow
   parameters : List ParameterRow
-  told : Found
+  told : Option ℕ
 
 -- with a text of 10 bytes
-abbrev judge : Case → Found
+abbrev judge : Case → Option ℕ
 judge c = broken 10 c.components c.properties c.parameters
 
-abbrev answer : Case → Found
+abbrev answer : Case → Option ℕ
 answer c = c.told
 
-abbrev nested : List ComponentRow → Found → Case
+abbrev nested : List ComponentRow → Option ℕ → Case
 nested cs told = record { components = cs; properties = []; parameters = []; told = told }
 
 abbrev top : ComponentRow
 top = component no_parent 1 0 3
 
 -- one component has these
-abbrev held : List PropertyRow → List ParameterRow → Found → Case
+abbrev held : List PropertyRow → List ParameterRow → Option ℕ → Case
 held ps qs told = record { components = top ∷ []; properties = ps; parameters = qs; told = told }
 
 abbrev line : PropertyRow
@@ -55,35 +54,35 @@ chain n = tabulate n (λ i. component (pick (eqb i 0) no_parent (i - 1)) (i + 1)
 
 abbrev cases : List Case
 cases =
-    nested [] (At 0)
-    ∷ record { components = []; properties = property 7 0 0 0 0 ∷ []; parameters = []; told = At 0 }
-    ∷ nested (top ∷ []) Nothing
-    ∷ nested (component 0 1 0 3 ∷ []) (At 0)
-    ∷ nested (component no_parent 2 0 3 ∷ []) (At 0)
-    ∷ nested (component no_parent 0 0 3 ∷ []) (At 0)
-    ∷ nested (component no_parent 1 8 3 ∷ []) (At 0)
-    ∷ nested (component no_parent 1 10 0 ∷ []) Nothing
-    ∷ nested (component no_parent 1 11 0 ∷ []) (At 0)
-    ∷ nested (top ∷ component 0 2 0 3 ∷ component 1 3 0 3 ∷ component 0 2 0 3 ∷ top ∷ []) Nothing
-    ∷ nested (top ∷ component 0 2 0 3 ∷ component 0 2 0 3 ∷ component 1 3 0 3 ∷ []) (At 3)
-    ∷ nested (top ∷ component 0 2 0 3 ∷ top ∷ component 0 2 0 3 ∷ []) (At 3)
-    ∷ nested (top ∷ component 1 2 0 3 ∷ []) (At 1)
-    ∷ nested (top ∷ component 0 1 0 3 ∷ []) (At 1)
-    ∷ nested (chain 64) Nothing
-    ∷ nested (chain 65) (At 64)
-    ∷ held (line ∷ line ∷ []) [] Nothing
-    ∷ held (line ∷ property 1 3 2 5 5 ∷ []) [] (At 2)
-    ∷ held (property 0 3 2 5 6 ∷ []) [] (At 1)
-    ∷ held (property 0 9 2 5 5 ∷ []) [] (At 1)
-    ∷ held (line ∷ line ∷ []) (parameter 0 0 1 0 0 0 ∷ parameter 1 0 1 1 1 0 ∷ parameter 1 0 0 1 1 1 ∷ []) Nothing
-    ∷ held (line ∷ line ∷ []) (parameter 1 0 1 0 0 0 ∷ parameter 0 0 1 0 0 0 ∷ []) (At 4)
-    ∷ held (line ∷ []) (parameter 1 0 1 0 0 0 ∷ []) (At 2)
-    ∷ held (line ∷ []) (parameter 0 10 1 0 0 0 ∷ []) (At 2)
-    ∷ held (line ∷ []) (parameter 0 0 1 1 10 1 ∷ []) (At 2)
-    ∷ held (line ∷ []) (parameter 0 0 1 2 0 0 ∷ []) (At 2)
-    ∷ held (line ∷ []) (parameter 0 0 1 0 1 0 ∷ []) (At 2)
-    ∷ held (line ∷ []) (parameter 0 0 1 0 0 1 ∷ []) (At 2)
-    ∷ held (property 1 3 2 5 5 ∷ []) (parameter 0 0 1 2 0 0 ∷ []) (At 1)
+    nested [] (Some 0)
+    ∷ record { components = []; properties = property 7 0 0 0 0 ∷ []; parameters = []; told = Some 0 }
+    ∷ nested (top ∷ []) None
+    ∷ nested (component 0 1 0 3 ∷ []) (Some 0)
+    ∷ nested (component no_parent 2 0 3 ∷ []) (Some 0)
+    ∷ nested (component no_parent 0 0 3 ∷ []) (Some 0)
+    ∷ nested (component no_parent 1 8 3 ∷ []) (Some 0)
+    ∷ nested (component no_parent 1 10 0 ∷ []) None
+    ∷ nested (component no_parent 1 11 0 ∷ []) (Some 0)
+    ∷ nested (top ∷ component 0 2 0 3 ∷ component 1 3 0 3 ∷ component 0 2 0 3 ∷ top ∷ []) None
+    ∷ nested (top ∷ component 0 2 0 3 ∷ component 0 2 0 3 ∷ component 1 3 0 3 ∷ []) (Some 3)
+    ∷ nested (top ∷ component 0 2 0 3 ∷ top ∷ component 0 2 0 3 ∷ []) (Some 3)
+    ∷ nested (top ∷ component 1 2 0 3 ∷ []) (Some 1)
+    ∷ nested (top ∷ component 0 1 0 3 ∷ []) (Some 1)
+    ∷ nested (chain 64) None
+    ∷ nested (chain 65) (Some 64)
+    ∷ held (line ∷ line ∷ []) [] None
+    ∷ held (line ∷ property 1 3 2 5 5 ∷ []) [] (Some 2)
+    ∷ held (property 0 3 2 5 6 ∷ []) [] (Some 1)
+    ∷ held (property 0 9 2 5 5 ∷ []) [] (Some 1)
+    ∷ held (line ∷ line ∷ []) (parameter 0 0 1 0 0 0 ∷ parameter 1 0 1 1 1 0 ∷ parameter 1 0 0 1 1 1 ∷ []) None
+    ∷ held (line ∷ line ∷ []) (parameter 1 0 1 0 0 0 ∷ parameter 0 0 1 0 0 0 ∷ []) (Some 4)
+    ∷ held (line ∷ []) (parameter 1 0 1 0 0 0 ∷ []) (Some 2)
+    ∷ held (line ∷ []) (parameter 0 10 1 0 0 0 ∷ []) (Some 2)
+    ∷ held (line ∷ []) (parameter 0 0 1 1 10 1 ∷ []) (Some 2)
+    ∷ held (line ∷ []) (parameter 0 0 1 2 0 0 ∷ []) (Some 2)
+    ∷ held (line ∷ []) (parameter 0 0 1 0 1 0 ∷ []) (Some 2)
+    ∷ held (line ∷ []) (parameter 0 0 1 0 0 1 ∷ []) (Some 2)
+    ∷ held (property 1 3 2 5 5 ∷ []) (parameter 0 0 1 2 0 0 ∷ []) (Some 1)
     ∷ []
 
 judged : map judge cases ≡ map answer cases

@@ -3,13 +3,14 @@ use mathlib.Core.Path.{◌≡◌, refl, sym, ap, ◌∙◌}
 use mathlib.Core.Bool.{Bool, true, false}
 use mathlib.Core.List.{List, [], ◌∷◌, ◌++◌, append_assoc, append-nil}
 use Prim.Native.Nat.{ℕ, zero, suc, ◌+◌, ◌*◌, ◌/◌, ◌≤◌, ◌<◌, zero-le, suc-le-suc}
-use native.Mathlib.Nat.{zero-add, add-zero, add-suc, mul-zero, mul-suc, mul_comm, suc-mul, le-div_iff_mul-le, mul-div_cancel_left, le_refl, le_of_suc-le-suc, not-suc-le-zero}
+use native.Mathlib.Nat.{zero-add, add-zero, mul-zero, mul-suc, mul_comm, suc-mul, le-div_iff_mul-le, mul-div_cancel_left, le_refl, le_of_suc-le-suc, not-suc-le-zero}
 use native.Mathlib.Numerals.{add-one}
 use native.Mathlib.Omega.{arith}
-use lib.ListN.{length, take, drop, drop_of_length-le, get_or, set, length-append}
+use lib.ListN.{length, take, drop, drop_of_length-le, get_or, length-append}
 use lib.Seq.{take_all, sets, sets-eq, length-sets, take-append_seam, drop-append-add, drop-drop, drop-cons, get_or-append-add, get_or-append_seam}
 use lib.Dec.{ltb}
 use borrow.Author.Tests.{lt-ltb, le-ltb}
+use borrow.Rule.Slice.PartMut.{put_mid}
 use Rattle.octets.specs.Choice.{pick}
 use Rattle.octets.specs.Laid.{laid}
 use Rattle.octets.proofs.Laid.{whole, length_laid}
@@ -30,12 +31,12 @@ put_inside size n ws table h = rw (lt-ltb n (length table / size) h)
 pub put_outside : (size n : ℕ) (ws table : List ℕ) → length table / size ≤ n → put_row size n ws table ≡ table
 put_outside size n ws table h = rw (le-ltb n (length table / size) h)
 
--- the words of a row put one after the other: what is put, with what is to come
-pub word_put : (at i : ℕ) (ws table : List ℕ) → i < length ws → sets (set table (at + i) (get_or ws i 0)) (at + (i + 1)) (drop (i + 1) ws) ≡ sets table (at + i) (drop i ws)
-word_put at i ws table h = rw (drop-cons ws i 0 h, add-one, add-suc)
-
-pub words_end : (at i : ℕ) (ws table : List ℕ) → length ws ≤ i → sets table (at + i) (drop i ws) ≡ table
-words_end at i ws table h = rw (drop_of_length-le ws h)
+-- the words of a row laid over their place
+pub put_laid : (n k : ℕ) (ws table now : List ℕ) → 0 < length ws → n < length table / length ws → k ≡ length ws → now ≡ ws
+    → put_mid (length ws * n) k table now ≡ put_row (length ws) n ws table
+put_laid n k ws table now some h ek e =
+    rw (e, ek, lt-ltb n (length table / length ws) h, sets-eq ws table (length ws * n) (row_fits (length ws) n (length table) some h))
+    (simp (drop-drop, append_assoc))
 
 pub length_put : (size n : ℕ) (ws table : List ℕ) → length (put_row size n ws table) ≡ length table
 length_put size n ws table = go (ltb n (length table / size))

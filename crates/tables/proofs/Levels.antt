@@ -16,7 +16,7 @@ use Rattle.tables.specs.Trees.{Trees, none, gather, grown, forest, tree_at, tree
 use Rattle.tables.specs.declared.ComponentRow.{ComponentRow}
 use Rattle.tables.specs.declared.PropertyRow.{PropertyRow}
 use Rattle.tables.specs.declared.ParameterRow.{ParameterRow}
-use Rattle.tables.specs.declared.Found.TheVariants.{Nothing}
+use Rattle.std.specs.Prelude.{None}
 use Rattle.tables.proofs.Gathered.{strangers}
 use Rattle.tables.proofs.Nested.{either_default, component_of, depth_of, rows_nested}
 
@@ -41,7 +41,7 @@ module _ {A R : Type 0} (owner_of : A → ℕ) (before before' : ℕ → A → R
       go false t e = e
 
 module _ (text : List ℕ) (components : List ComponentRow) (properties : List PropertyRow) (parameters : List ParameterRow)
-    (text_length : ℕ) (fits : broken_component text_length 0 [] components ≡ Nothing) where
+    (text_length : ℕ) (fits : broken_component text_length 0 [] components ≡ None) where
   -- the level reaches below every row that has this parent
   abbrev Enough : ℕ → ℕ → Type 0
   Enough level parent = (row : ℕ) → row < length components → (component_of components row).parent ≡ parent → deepest < depth_of components row + level

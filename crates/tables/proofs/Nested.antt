@@ -16,7 +16,7 @@ use Rattle.octets.proofs.Bools.{both}
 use Rattle.tables.specs.Rows.{no_parent, component_at}
 use Rattle.tables.specs.TableRule.{Opened, inside, out_from, ancestors, some, parent_fits, parent_depth, depth_fits, component_fits, opens_after, broken_component}
 use Rattle.tables.specs.declared.ComponentRow.{ComponentRow}
-use Rattle.tables.specs.declared.Found.TheVariants.{Nothing}
+use Rattle.std.specs.Prelude.{None}
 use Rattle.tables.proofs.Rule.{first_fits}
 
 -- an element that is there is read alike whatever is read past the end
@@ -151,7 +151,7 @@ module _ (components : List ComponentRow) where
               }
 
     all_nested : (xs : List ComponentRow) (i : ℕ) (opens : List Opened) → xs ≡ drop i components → Chain i opens
-        → broken_component text_length i opens xs ≡ Nothing → (row : ℕ) → i ≤ row → row < length components → Nested row
+        → broken_component text_length i opens xs ≡ None → (row : ℕ) → i ≤ row → row < length components → Nested row
     all_nested [] i opens e chain fits row h l = absurd (omega (arith, length-drop i components, ap length e))
     all_nested (x ∷ xs) i opens e chain fits row h l =
         let split = first_fits (component_fits text_length) opens_after i opens x xs fits in
@@ -173,5 +173,5 @@ module _ (components : List ComponentRow) where
         go false t f outer = outer (omega (arith, eqb-false i row t))
 
   -- so every component row of tables that meet the rule
-  pub rows_nested : (text_length : ℕ) → broken_component text_length 0 [] components ≡ Nothing → (row : ℕ) → row < length components → Nested row
+  pub rows_nested : (text_length : ℕ) → broken_component text_length 0 [] components ≡ None → (row : ℕ) → row < length components → Nested row
   rows_nested text_length fits row l = all_nested text_length components 0 [] refl none fits row (omega arith) l

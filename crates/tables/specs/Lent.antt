@@ -1,7 +1,7 @@
 -- The four things that a reading fills and that the writer and the twin test look at: which rows stand in them, whether they meet the table
 -- rule, and the trees that they stand for.
 -- Assumes nothing.
-use Rattle.std.specs.Prelude.{ℕ, List, [], length, get_or}
+use Rattle.std.specs.Prelude.{ℕ, List, [], length, get_or, Option}
 use Rattle.octets.specs.Views.{viewed}
 use Rattle.tables.specs.Rows.{component_size, property_size, parameter_size, component_at, property_at, parameter_at, rows_of}
 use Rattle.tables.specs.TableRule.{broken}
@@ -9,7 +9,7 @@ use Rattle.tables.specs.Trees.{Trees, tree_at, trees_of}
 use Rattle.tables.specs.declared.ComponentRow.{ComponentRow}
 use Rattle.tables.specs.declared.PropertyRow.{PropertyRow}
 use Rattle.tables.specs.declared.ParameterRow.{ParameterRow}
-use Rattle.tables.specs.declared.Found.{Found}
+use Rattle.tables.specs.declared.Tables.{Tables}
 
 -- a text and the words of three tables
 pub record Lent : Type 0 where
@@ -22,6 +22,10 @@ abbrev pub lent : List ℕ → List ℕ → List ℕ → List ℕ → Lent
 lent text components properties parameters =
     record { text = text; components = components; properties = properties; parameters = parameters }
 
+-- what four references in one value hold
+abbrev pub held : Tables → Lent
+held t = lent t.text.now t.components.now t.properties.now t.parameters.now
+
 -- all whole rows count, and words behind them do not
 abbrev pub components_in : List ℕ → List ComponentRow
 components_in = rows_of component_size component_at
@@ -33,7 +37,7 @@ abbrev pub parameters_in : List ℕ → List ParameterRow
 parameters_in = rows_of parameter_size parameter_at
 
 -- the first row that breaks the table rule
-abbrev pub broken_in : Lent → Found
+abbrev pub broken_in : Lent → Option ℕ
 broken_in b = broken (length b.text) (components_in b.components) (properties_in b.properties) (parameters_in b.parameters)
 
 -- "whole tables stand for the list of their top trees"

@@ -1,14 +1,12 @@
 -- The table rule of document 01, "Writing and trees", on rows and the length of the text: one test for each sentence, and the first row that fails one.
 -- Assumes nothing.
-use Rattle.std.specs.Prelude.{ℕ, ◌+◌, Bool, true, false, ◌&&◌, ◌||◌, List, [], ◌∷◌, length, eqb, leb, ltb}
+use Rattle.std.specs.Prelude.{ℕ, ◌+◌, Bool, true, false, ◌&&◌, ◌||◌, List, [], ◌∷◌, length, eqb, leb, ltb, Option, Some, None}
 use Rattle.octets.specs.Choice.{pick}
 use Rattle.octets.specs.Answers.{deepest}
 use Rattle.tables.specs.Rows.{no_parent}
 use Rattle.tables.specs.declared.ComponentRow.{ComponentRow}
 use Rattle.tables.specs.declared.PropertyRow.{PropertyRow}
 use Rattle.tables.specs.declared.ParameterRow.{ParameterRow}
-use Rattle.tables.specs.declared.Found.{Found}
-use Rattle.tables.specs.declared.Found.TheVariants.{Nothing, At}
 
 -- "views inside the text"
 abbrev pub inside : ℕ → ℕ → ℕ → Bool
@@ -71,29 +69,29 @@ parameter_fits text_length properties before p =
     && (inside text_length p.value_start p.value_len && (rising_in properties before p && presence_fits p))
 
 -- the first row that does not fit, of rows numbered from `row` on; each is tested with what those before it leave, at first `seen`
-unfoldable pub first_broken : {S A : Type 0} → (S → A → Bool) → (ℕ → S → A → S) → ℕ → S → List A → Found
-first_broken fits after row seen [] = Nothing
-first_broken fits after row seen (x ∷ xs) = pick (fits seen x) (first_broken fits after (row + 1) (after row seen x) xs) (At row)
+unfoldable pub first_broken : {S A : Type 0} → (S → A → Bool) → (ℕ → S → A → S) → ℕ → S → List A → Option ℕ
+first_broken fits after row seen [] = None
+first_broken fits after row seen (x ∷ xs) = pick (fits seen x) (first_broken fits after (row + 1) (after row seen x) xs) (Some row)
 
-abbrev pub broken_component : ℕ → ℕ → List Opened → List ComponentRow → Found
+abbrev pub broken_component : ℕ → ℕ → List Opened → List ComponentRow → Option ℕ
 broken_component text_length = first_broken (component_fits text_length) opens_after
 
 -- a property sees nothing of those before it
-abbrev pub broken_property : ℕ → ℕ → ℕ → List PropertyRow → Found
+abbrev pub broken_property : ℕ → ℕ → ℕ → List PropertyRow → Option ℕ
 broken_property text_length components row = first_broken (λ (seen : Bool). property_fits text_length components) (λ row seen p. seen) row true
 
 -- a parameter sees the property of the one before
-abbrev pub broken_parameter : ℕ → ℕ → ℕ → ℕ → List ParameterRow → Found
+abbrev pub broken_parameter : ℕ → ℕ → ℕ → ℕ → List ParameterRow → Option ℕ
 broken_parameter text_length properties = first_broken (parameter_fits text_length properties) (λ row seen p. p.property)
 
-abbrev pub or_else : Found → Found → Found
-or_else Nothing next = next
-or_else (At n) next = At n
+abbrev pub or_else : Option ℕ → Option ℕ → Option ℕ
+or_else None next = next
+or_else (Some n) next = Some n
 
 -- "at least one component (none: place 0)"; then the first broken row of the three tables, components, properties, parameters
-unfoldable pub broken : ℕ → List ComponentRow → List PropertyRow → List ParameterRow → Found
+unfoldable pub broken : ℕ → List ComponentRow → List PropertyRow → List ParameterRow → Option ℕ
 broken text_length components properties parameters =
-    pick (eqb (length components) 0) (At 0)
+    pick (eqb (length components) 0) (Some 0)
     (or_else (broken_component text_length 0 [] components)
     (or_else (broken_property text_length (length components) (length components) properties)
     (broken_parameter text_length (length properties) (length components + length properties) 0 parameters)))
@@ -101,9 +99,9 @@ broken text_length components properties parameters =
 -- ---- in the answers of a call that tests it
 
 -- the refusal of the first row that breaks the rule, or else what comes next
-abbrev pub by_table_rule : {A : Type 0} → (ℕ → A) → Found → A → A
-by_table_rule refused Nothing next = next
-by_table_rule refused (At row) next = refused row
+abbrev pub by_table_rule : {A : Type 0} → (ℕ → A) → Option ℕ → A → A
+by_table_rule refused None next = next
+by_table_rule refused (Some row) next = refused row
 
 -- "then a row number not below the component count"
 abbrev pub by_number : {A : Type 0} → (ℕ → A) → ℕ → ℕ → A → A

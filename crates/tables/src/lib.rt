@@ -40,11 +40,13 @@ pub struct ParameterRow {
     pub value_len: u32,
 }
 
-// The first row that breaks a rule, numbered through the three tables, where one does.
+// What a reading fills, and the writer and the twin test look at.
 #[derive(Clone, Copy)]
-pub enum Found {
-    Nothing,
-    At(usize),
+pub struct Tables<'a> {
+    pub text: &'a [u8],
+    pub components: &'a [u32],
+    pub properties: &'a [u32],
+    pub parameters: &'a [u32],
 }
 
 // How many whole rows a table has room for.
@@ -76,11 +78,7 @@ fn put_row(words: &[u32], table: &mut [u32], row: usize)
         return;
     }
     let at = size * row;
-    let mut i: usize = 0;
-    while i < size {
-        table[at + i] = words[i];
-        i += 1;
-    }
+    table[at..at + size].copy_from_slice(words);
 }
 
 pub fn put_component(table: &mut [u32], row: usize, c: ComponentRow)

@@ -11,7 +11,7 @@ use Rattle.tables.specs.Trees.{gather, forest, tree_at}
 use Rattle.tables.specs.Fronts.{front}
 use Rattle.tables.specs.declared.ComponentRow.{ComponentRow}
 use Rattle.tables.specs.declared.PropertyRow.{PropertyRow}
-use Rattle.tables.specs.declared.Found.TheVariants.{Nothing}
+use Rattle.std.specs.Prelude.{None}
 use Rattle.walking.specs.Walk.{end_of, window_count, tally, found_below, in_order}
 
 abbrev component : ℕ → ComponentRow
@@ -53,7 +53,7 @@ abbrev parted : List PropertyRow
 parted = map property (1 ∷ 0 ∷ 2 ∷ [])
 
 -- the tables meet the rule and are in order; the tree of the second row has two properties, and its window one
-inner_window : (broken 0 chain parted [] ≡ Nothing) × (in_order chain parted ≡ true)
+inner_window : (broken 0 chain parted [] ≡ None) × (in_order chain parted ≡ true)
     × (property_count (tree_at [] chain parted [] deepest 1) ≡ 2) × (window_count chain parted 1 ≡ 1)
 unfolding broken first_broken out_from front tally found_below in_order property_count forest gather
 inner_window = (refl, refl, refl, refl)

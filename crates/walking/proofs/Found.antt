@@ -17,7 +17,7 @@ use Rattle.tables.specs.Trees.{Parameter, gather, parameter_of, parameters_of}
 use Rattle.tables.specs.declared.ComponentRow.{ComponentRow}
 use Rattle.tables.specs.declared.PropertyRow.{PropertyRow}
 use Rattle.tables.specs.declared.ParameterRow.{ParameterRow}
-use Rattle.tables.specs.declared.Found.TheVariants.{Nothing}
+use Rattle.std.specs.Prelude.{None}
 use Rattle.tables.proofs.Fronts.{passed}
 use Rattle.tables.proofs.Gathered.{parts, strangers, passed as passed_over}
 use Rattle.tables.proofs.Rule.{first_fits}
@@ -62,7 +62,7 @@ data Rising : ℕ → List ParameterRow → Type 0 where
   row : {seen : ℕ} {q : ParameterRow} {qs : List ParameterRow} → seen ≤ q.property → Rising q.property qs → Rising seen (q ∷ qs)
 
 -- by the table rule they are
-rising : (text_length properties at seen : ℕ) (qs : List ParameterRow) → broken_parameter text_length properties at seen qs ≡ Nothing → Rising seen qs
+rising : (text_length properties at seen : ℕ) (qs : List ParameterRow) → broken_parameter text_length properties at seen qs ≡ None → Rising seen qs
 rising text_length properties at seen [] sound = no_row
 rising text_length properties at seen (q ∷ qs) sound =
     let step = first_fits (parameter_fits text_length properties) (λ at seen p. p.property) at seen q qs sound in
@@ -117,7 +117,7 @@ module _ (text : List ℕ) (property : ℕ) where
 
 -- so a search from any row on that is not behind the first of them finds them all
 pub run_is_all : (text : List ℕ) (parameters : List ParameterRow) (property first from text_length properties at seen : ℕ)
-    → broken_parameter text_length properties at seen parameters ≡ Nothing
+    → broken_parameter text_length properties at seen parameters ≡ None
     → from ≤ front (held_before property) parameters → first ≡ from + front (held_before property) (drop from parameters)
     → map (parameter_of text) (take (front (belongs property) (drop first parameters)) (drop first parameters)) ≡ parameters_of text parameters property
 run_is_all text parameters property first from text_length properties at seen sound h e =

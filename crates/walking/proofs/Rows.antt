@@ -12,13 +12,13 @@ use Rattle.octets.specs.Views.{viewed}
 use Rattle.tables.specs.Rows.{component_size, component_at}
 use Rattle.tables.specs.Lent.{Lent, components_in, properties_in, parameters_in, broken_in, name_in}
 use Rattle.tables.specs.declared.ComponentRow.{ComponentRow}
-use Rattle.tables.specs.declared.Found.TheVariants.{Nothing}
+use Rattle.std.specs.Prelude.{None}
 use Rattle.tables.proofs.Rule.{meets}
 use Rattle.tables.proofs.Laws.{length_rows, get_d_tabulate}
 use Rattle.walking.specs.Places.{Ruled}
 
 -- tables without a broken row are as a walk wants them
-pub ruled : (b : Lent) → broken_in b ≡ Nothing → Ruled b
+pub ruled : (b : Lent) → broken_in b ≡ None → Ruled b
 ruled b e =
     let m = meets (length b.text) (components_in b.components) (properties_in b.properties) (parameters_in b.parameters) e in
     record {

@@ -20,7 +20,7 @@ use Rattle.tables.specs.Trees.{Property, Trees, none, tree, gather, parameter_of
 use Rattle.tables.specs.declared.ComponentRow.{ComponentRow}
 use Rattle.tables.specs.declared.PropertyRow.{PropertyRow}
 use Rattle.tables.specs.declared.ParameterRow.{ParameterRow}
-use Rattle.tables.specs.declared.Found.TheVariants.{Nothing}
+use Rattle.std.specs.Prelude.{None}
 use Rattle.tables.proofs.Nested.{depth_of, Nested, rows_nested}
 use Rattle.tables.proofs.Rule.{seen_at, all_fit, meets}
 use Rattle.walking.specs.Walk.{end_of, owned_before, owned_within, owned_by, window_first, window_count, tally}
@@ -52,7 +52,7 @@ by_parameter = record { nothing = refl; first = λ name properties children rest
 
 module _ {count : Trees → ℕ} {weigh : List ℕ → List Property → ℕ} (w : Weighs count weigh)
     (text : List ℕ) (components : List ComponentRow) (properties : List PropertyRow) (parameters : List ParameterRow)
-    (text_length : ℕ) (fits : broken_component text_length 0 [] components ≡ Nothing) where
+    (text_length : ℕ) (fits : broken_component text_length 0 [] components ≡ None) where
   -- what a component row weighs, without its children
   abbrev pub weight : ℕ → ℕ
   weight row = weigh (name_in text components row) (properties_of text properties parameters row)
@@ -181,7 +181,7 @@ abbrev pub behind_window : List ComponentRow → List PropertyRow → ℕ → Li
 behind_window components properties row = drop (window_first properties row + window_count components properties row) properties
 
 module _ (text : List ℕ) (components : List ComponentRow) (properties : List PropertyRow) (parameters : List ParameterRow)
-    (text_length : ℕ) (fits : broken_component text_length 0 [] components ≡ Nothing) (level row : ℕ)
+    (text_length : ℕ) (fits : broken_component text_length 0 [] components ≡ None) (level row : ℕ)
     (there : row < length components) (enough : deepest ≤ depth_of components row + level) where
   -- it has a component for each row of the subtree
   pub tree_components : component_count (tree_at text components properties parameters level row) ≡ end_of components row - row
@@ -221,7 +221,7 @@ module _ (text : List ℕ) (components : List ComponentRow) (properties : List P
 -- ---- whole tables
 
 -- owners are in range
-pub owners_there : (text_length n row : ℕ) (properties : List PropertyRow) → broken_property text_length n row properties ≡ Nothing
+pub owners_there : (text_length n row : ℕ) (properties : List PropertyRow) → broken_property text_length n row properties ≡ None
     → (i : ℕ) (d : PropertyRow) → i < length properties → (get_or properties i d).owner < n
 owners_there text_length n row properties fits i d h =
     let p = get_or properties i d in
@@ -229,7 +229,7 @@ owners_there text_length n row properties fits i d h =
     let u = (both (inside text_length p.key_start p.key_len) _ t).1 in
     ltb-true p.owner n (both (inside text_length p.value_start p.value_len) (ltb p.owner n) u).1
 
-properties_there : (text_length n row seen : ℕ) (parameters : List ParameterRow) → broken_parameter text_length n row seen parameters ≡ Nothing
+properties_there : (text_length n row seen : ℕ) (parameters : List ParameterRow) → broken_parameter text_length n row seen parameters ≡ None
     → (i : ℕ) (d : ParameterRow) → i < length parameters → (get_or parameters i d).property < n
 properties_there text_length n row seen parameters fits i d h =
     let p = get_or parameters i d in
@@ -240,7 +240,7 @@ properties_there text_length n row seen parameters fits i d h =
     ltb-true p.property n (both (leb before p.property) (ltb p.property n) (both (rising_in n before p) (presence_fits p) v).0).1
 
 module _ (text : List ℕ) (components : List ComponentRow) (properties : List PropertyRow) (parameters : List ParameterRow)
-    (text_length : ℕ) (fits : broken text_length components properties parameters ≡ Nothing) where
+    (text_length : ℕ) (fits : broken text_length components properties parameters ≡ None) where
   pub all_components : component_count (trees_of text components properties parameters) ≡ length components
   all_components =
       let m = meets text_length components properties parameters fits in

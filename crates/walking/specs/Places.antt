@@ -6,7 +6,7 @@ use Rattle.tables.specs.TableRule.{broken_component, broken_parameter}
 use Rattle.tables.specs.declared.ComponentRow.{ComponentRow}
 use Rattle.tables.specs.declared.PropertyRow.{PropertyRow}
 use Rattle.tables.specs.declared.ParameterRow.{ParameterRow}
-use Rattle.tables.specs.declared.Found.TheVariants.{Nothing}
+use Rattle.std.specs.Prelude.{None}
 use Rattle.walking.specs.Walk.{in_order, Reached, Holds}
 use Rattle.walking.specs.declared.Cursor.{Cursor}
 use Rattle.walking.specs.declared.Window.{Window}
@@ -16,7 +16,7 @@ pub record RisingParameters (parameters : List ParameterRow) : Type 0 where
   pub text_length : ℕ
   pub properties : ℕ
   pub first : ℕ
-  pub fits : broken_parameter text_length properties first 0 parameters ≡ Nothing
+  pub fits : broken_parameter text_length properties first 0 parameters ≡ None
 
 -- the window holds all properties of the row
 pub record Owns (properties : List PropertyRow) (parameters : List ParameterRow) (row : ℕ) (window : Window) : Type 0 where
@@ -25,7 +25,7 @@ pub record Owns (properties : List PropertyRow) (parameters : List ParameterRow)
 
 -- the tables meet the table rule, as far as a walk leans on it
 pub record Ruled (b : Lent) : Type 0 where
-  pub components : broken_component (length b.text) 0 [] (components_in b.components) ≡ Nothing
+  pub components : broken_component (length b.text) 0 [] (components_in b.components) ≡ None
   pub parameters : RisingParameters (parameters_in b.parameters)
 
 -- `ordered` is said only of tables that are

@@ -1,0 +1,17 @@
+use Rattle.std.proofs.Common.{arith, refl, sym, ◌∙◌}
+use Rattle.checking.proofs.Components.{nothing, none, breaks, more}
+use Rattle.checking.proofs.broken_component.Goals as goal
+
+pub loop-row-init : goal.loop-row-init
+loop-row-init c = nothing _ _ _ refl
+
+pub returns-then-not-component_fits : goal.returns-then-not-component_fits
+returns-then-not-component_fits c =
+    breaks _ _ c.loop-row.invariant (omega arith) _ c.component_at-c.ensures (sym c.component_fits.ensures ∙ c.if-not-component_fits.true)
+
+pub loop-row-preserved : goal.loop-row-preserved
+loop-row-preserved c =
+    more _ _ c.loop-row.invariant (omega arith) _ c.component_at-c.ensures (sym c.component_fits.ensures ∙ c.if-not-component_fits.false)
+
+pub returns : goal.returns
+returns c = none _ _ c.loop-row.invariant (omega arith)
