@@ -1,14 +1,21 @@
 // The table rule as a test: which row of three tables is the first to break it.
 #![tactic(auto)]
 
-ghost use Rattle.std.specs.Prelude.{◌≡◌, ◌&&◌, [], ◌+◌, ◌/◌, ◌≤◌, length};
+ghost use Rattle.std.specs.Prelude.{◌≡◌, ◌&&◌, [], ◌+◌, ◌/◌, ◌≤◌, length, Some, None, MatchResult};
 ghost use Rattle.octets.specs.Laid.{most};
 ghost use Rattle.tables.specs.Rows.{property_size, parameter_size};
 ghost use Rattle.tables.specs.TableRule.{inside, parent_fits, depth_fits, component_fits, property_fits, rising_in, presence_fits, parameter_fits, broken_component, broken_property, broken_parameter};
-ghost use Rattle.tables.specs.Lent.{lent, broken_in, components_in, properties_in, parameters_in};
+ghost use Rattle.tables.specs.Lent.{lent, broken_in, components_in, properties_in, parameters_in, held};
 ghost use Rattle.checking.specs.Chains.{chain, Rising};
 
-use tables::{ComponentRow, ParameterRow, PropertyRow};
+use tables::{ComponentRow, ParameterRow, PropertyRow, Tables};
+
+// Tables that meet the table rule.
+#[derive(Clone, Copy)]
+pub struct Checked<'a> {
+    pub tables: Tables<'a>,
+    pub ghost meets: { broken_in (held tables) ≡ None },
+}
 
 // Whether a view lies inside a text of so many bytes.
 fn inside(size: usize, start: u32, len: u32) -> bool
@@ -144,4 +151,20 @@ pub fn first_broken(
                 parameters,
             )
         })
+}
+
+// The tables, if they meet the table rule, or else the first row that breaks it.
+pub fn check<'a>(tables: &Tables<'a>) -> Result<Checked<'a>, usize>
+    ensures { MatchResult result (λ checked. checked.tables ≡ tables.now) (λ row. broken_in (held tables.now) ≡ Some row) }
+{
+    let broken = first_broken(
+        tables.text,
+        tables.components,
+        tables.properties,
+        tables.parameters,
+    );
+    match broken {
+        None => Ok(Checked { tables: *tables }),
+        Some(row) => Err(row),
+    }
 }

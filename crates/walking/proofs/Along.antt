@@ -18,7 +18,7 @@ use Rattle.tables.specs.declared.ParameterRow.{ParameterRow}
 use Rattle.tables.proofs.Gathered.{over}
 use Rattle.tables.proofs.Nested.{Nested, component_of, depth_of, rows_nested}
 use Rattle.walking.specs.Walk.{end_of, Reached}
-use Rattle.walking.specs.Places.{Ruled, Ordered, Arrived}
+use Rattle.walking.specs.Places.{Ruled, Arrived}
 use Rattle.walking.specs.declared.Cursor.{Cursor}
 use Rattle.walking.proofs.Walks.{reached_on}
 use Rattle.walking.proofs.Rows.{end_after, end_before, some_level}
@@ -57,8 +57,8 @@ module _ (b : Lent) where
         }
 
     -- a row that is not the end is there
-    pub placed : {ordered : Bool} → Ordered b ordered → Arrived b row ordered cursor
-    placed o = record { there = omega (arith, (a.siblings h).inside); order = o; reached = a.reached }
+    pub placed : Arrived b row cursor
+    placed = record { there = omega (arith, (a.siblings h).inside); reached = a.reached }
 
   -- ---- the trees ahead, their children as deep as the level allows
 

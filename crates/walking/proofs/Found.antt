@@ -23,6 +23,7 @@ use Rattle.tables.proofs.Gathered.{parts, strangers, passed as passed_over}
 use Rattle.tables.proofs.Rule.{first_fits}
 use Rattle.walking.specs.declared.Window.{Window}
 use Rattle.walking.specs.Walk.{held_before, Holds}
+use Rattle.walking.specs.Places.{rises}
 
 -- rows of others before n, and from n on, may be left out
 module _ {A R : Type 0} (owner_of : A → ℕ) (before : ℕ → A → R → R) (end : R) (owner : ℕ) (xs : List A) (n : ℕ) where
@@ -61,15 +62,21 @@ data Rising : ℕ → List ParameterRow → Type 0 where
   no_row : {seen : ℕ} → Rising seen []
   row : {seen : ℕ} {q : ParameterRow} {qs : List ParameterRow} → seen ≤ q.property → Rising q.property qs → Rising seen (q ∷ qs)
 
--- by the table rule they are
-rising : (text_length properties at seen : ℕ) (qs : List ParameterRow) → broken_parameter text_length properties at seen qs ≡ None → Rising seen qs
-rising text_length properties at seen [] sound = no_row
-rising text_length properties at seen (q ∷ qs) sound =
+-- by the table rule they do
+pub rule_rises : (text_length properties at seen : ℕ) (qs : List ParameterRow) → broken_parameter text_length properties at seen qs ≡ None → rises seen qs ≡ true
+unfolding rises
+rule_rises text_length properties at seen [] sound = refl
+rule_rises text_length properties at seen (q ∷ qs) sound =
     let step = first_fits (parameter_fits text_length properties) (λ at seen p. p.property) at seen q qs sound in
     let fits = (both (inside text_length q.value_start q.value_len) _ (both (inside text_length q.key_start q.key_len) _ step.0).1).1 in
-    row
-    (leb-true seen q.property (both (leb seen q.property) _ (both (rising_in properties seen q) _ fits).0).0)
-    (rising text_length properties (at + 1) q.property qs step.1)
+    rw ((both (leb seen q.property) _ (both (rising_in properties seen q) _ fits).0).0) (rule_rises text_length properties (at + 1) q.property qs step.1)
+
+rising : (seen : ℕ) (qs : List ParameterRow) → rises seen qs ≡ true → Rising seen qs
+unfolding rises
+rising seen [] e = no_row
+rising seen (q ∷ qs) e =
+    let t = both (leb seen q.property) (rises q.property qs) e in
+    row (leb-true seen q.property t.0) (rising q.property qs t.1)
 
 -- the parameters of a property stand in one run
 module _ (text : List ℕ) (property : ℕ) where
@@ -116,9 +123,8 @@ module _ (text : List ℕ) (property : ℕ) where
       go false e on here = here (ltb-false q.property property e)
 
 -- so a search from any row on that is not behind the first of them finds them all
-pub run_is_all : (text : List ℕ) (parameters : List ParameterRow) (property first from text_length properties at seen : ℕ)
-    → broken_parameter text_length properties at seen parameters ≡ None
+pub run_is_all : (text : List ℕ) (parameters : List ParameterRow) (property first from seen : ℕ) → rises seen parameters ≡ true
     → from ≤ front (held_before property) parameters → first ≡ from + front (held_before property) (drop from parameters)
     → map (parameter_of text) (take (front (belongs property) (drop first parameters)) (drop first parameters)) ≡ parameters_of text parameters property
-run_is_all text parameters property first from text_length properties at seen sound h e =
-    rw (e ∙ passed (held_before property) from parameters h) (run_found text property 0 (rising text_length properties at seen parameters sound))
+run_is_all text parameters property first from seen rise h e =
+    rw (e ∙ passed (held_before property) from parameters h) (run_found text property 0 (rising seen parameters rise))

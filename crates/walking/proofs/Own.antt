@@ -42,7 +42,7 @@ module _ (parameters : List ParameterRow) (number : ℕ) {own from : ℕ} (h : f
 
   -- and they are all that it has
   pub own_parameters_holds : (text : List ℕ) → RisingParameters parameters → own_parameters text number own parameters ≡ parameters_of text parameters number
-  own_parameters_holds text r = run_is_all text parameters number own from r.text_length r.properties r.first 0 r.fits h e
+  own_parameters_holds text r = run_is_all text parameters number own from 0 r.rise h e
 
   -- so that the row with them is the property that it stands for
   pub own_property_holds : (text : List ℕ) → RisingParameters parameters → (p : PropertyRow) → own_property text p number own parameters ≡ property_of text parameters number p

@@ -10,12 +10,14 @@ use borrow.Author.Tests.{eqb-false}
 use Rattle.octets.specs.Choice.{pick}
 use Rattle.octets.specs.Views.{viewed}
 use Rattle.tables.specs.Rows.{component_size, component_at}
-use Rattle.tables.specs.Lent.{Lent, components_in, properties_in, parameters_in, broken_in, name_in}
+use Rattle.tables.specs.Lent.{Lent, components_in, properties_in, parameters_in, broken_in, name_in, held}
 use Rattle.tables.specs.declared.ComponentRow.{ComponentRow}
 use Rattle.std.specs.Prelude.{None}
 use Rattle.tables.proofs.Rule.{meets}
 use Rattle.tables.proofs.Laws.{length_rows, get_d_tabulate}
 use Rattle.walking.specs.Places.{Ruled}
+use Rattle.walking.specs.declared.Walk.{Walk}
+use Rattle.walking.proofs.Found.{rule_rises}
 
 -- tables without a broken row are as a walk wants them
 pub ruled : (b : Lent) → broken_in b ≡ None → Ruled b
@@ -23,8 +25,12 @@ ruled b e =
     let m = meets (length b.text) (components_in b.components) (properties_in b.properties) (parameters_in b.parameters) e in
     record {
       components = m.components_fit;
-      parameters = record { text_length = _; properties = _; first = _; fits = m.parameters_fit };
+      parameters = record { rise = rule_rises _ _ _ 0 (parameters_in b.parameters) m.parameters_fit };
     }
+
+-- and so are those of a walk
+pub walk_ruled : (w : Walk) → Ruled (held w.tables)
+walk_ruled w = record { components = w.nested; parameters = record { rise = w.rising } }
 
 -- a row that is there
 pub row_there : (words : List ℕ) (row : ℕ) → row < length (components_in words) → row < length words / component_size

@@ -1,18 +1,30 @@
 // Where the rows of a component stand. The writer and the twin test find them here, in time that stays linear for the tables of a reading.
 #![tactic(auto)]
 
-ghost use Rattle.std.specs.Prelude.{◌≡◌, true, ◌+◌, ◌-◌, ◌≤◌, ◌<◌, ◌/◌, length, take, drop, eqb};
+ghost use Rattle.std.specs.Prelude.{◌≡◌, true, false, ◌+◌, ◌-◌, ◌≤◌, ◌<◌, ◌/◌, length, [], take, drop, eqb, None};
 ghost use Rattle.octets.specs.Choice.{pick};
 ghost use Rattle.tables.specs.Rows.{component_size, property_size, component_at, property_at};
-ghost use Rattle.tables.specs.Lent.{components_in, properties_in, parameters_in};
+ghost use Rattle.tables.specs.TableRule.{broken_component};
+ghost use Rattle.tables.specs.Lent.{components_in, properties_in, parameters_in, held};
 ghost use Rattle.tables.specs.Fronts.{front, belongs};
 ghost use Rattle.walking.specs.Walk.{deeper, end_of, owned_before, owned_within, owned_by, owned_by_other, held_before, tally, in_order, stands, Reached, Holds};
+ghost use Rattle.walking.specs.Places.{rises};
+
+use checking::Checked;
+use tables::Tables;
 
 // How far a walk through the component rows has come in the two other tables.
 #[derive(Clone, Copy)]
 pub struct Cursor {
     pub property: usize,
     pub parameter: usize,
+}
+
+impl Cursor {
+    pub const START: Cursor = Cursor {
+        property: 0,
+        parameter: 0,
+    };
 }
 
 // Where the properties of a component stand, from `first` up to `last`, with the first parameter that may be one of theirs;
@@ -24,6 +36,55 @@ pub struct Window {
     pub parameter: usize,
     pub end: usize,
     pub cursor: Cursor,
+}
+
+// Tables that meet the table rule, as far as a walk leans on it: components nest, and parameters stand by rising property. `ordered` is said only
+// where every property stands in its owner's window.
+#[derive(Clone, Copy)]
+pub struct Walk<'a> {
+    pub tables: Tables<'a>,
+    pub ordered: bool,
+    pub ghost nested: { broken_component (length (held tables).text) 0 [] (components_in (held tables).components) ≡ None },
+    pub ghost rising: { rises 0 (parameters_in (held tables).parameters) ≡ true },
+    pub ghost order: { ordered ≡ true → in_order (components_in (held tables).components) (properties_in (held tables).properties) ≡ true },
+}
+
+impl<'a> Walk<'a> {
+    // A walk that has not looked whether properties stand in their windows.
+    pub fn new(checked: &Checked<'a>) -> Walk<'a>
+        ensures { (result.tables ≡ checked.now.tables) × (result.ordered ≡ false) }
+    {
+        Walk {
+            tables: checked.tables,
+            ordered: false,
+        }
+    }
+
+    // The same tables, with the order of their properties looked at.
+    pub fn with_order(&self) -> Walk<'a>
+        ensures { result.tables ≡ self.now.tables }
+    {
+        Walk {
+            tables: self.tables,
+            ordered: in_order(self.tables.components, self.tables.properties),
+        }
+    }
+
+    // The window of a component.
+    pub fn window(&self, row: usize, cursor: Cursor) -> Window
+        requires row_in_bounds { row < length (held self.now.tables).components / component_size }
+        requires reached { Reached (properties_in (held self.now.tables).properties) (parameters_in (held self.now.tables).parameters) cursor row }
+        ensures { Holds (components_in (held self.now.tables).components) (properties_in (held self.now.tables).properties) (parameters_in (held self.now.tables).parameters) row result }
+    {
+        window_of(
+            self.tables.components,
+            self.tables.properties,
+            self.tables.parameters,
+            row,
+            cursor,
+            self.ordered,
+        )
+    }
 }
 
 // The row behind the subtree of a component: the first later one that is no deeper.
