@@ -1,13 +1,17 @@
 -- A walk through the properties of a component: what is left of them, one turn later, and at the start. Assumes nothing.
 use mathlib.Core.Path.{◌≡◌, sym, ◌∙◌}
+use mathlib.Core.Bool.{Bool, true, false, not}
 use mathlib.Core.List.{List, [], ◌∷◌}
 use Prim.Native.Nat.{ℕ, ◌+◌, ◌-◌, ◌/◌, ◌≤◌, ◌<◌}
 use native.Mathlib.Omega.{arith}
 use lib.ListN.{length, take, drop}
+use Rattle.std.specs.Prelude.{Option, None, Some, MatchOption}
+use Rattle.std.specs.Option.{is_some}
 use Rattle.tables.specs.Rows.{property_size, property_at}
 use Rattle.tables.specs.Lent.{Lent, held, properties_in, parameters_in}
 use Rattle.tables.specs.Trees.{Property, properties_of, property_of}
 use Rattle.tables.specs.Fronts.{front}
+use Rattle.tables.specs.declared.Tables.{Tables}
 use Rattle.tables.proofs.Laws.{length_rows, row_here}
 use Rattle.walking.specs.Walk.{owned_by_other, held_before}
 use Rattle.walking.specs.Places.{RisingParameters, Owns}
@@ -15,7 +19,11 @@ use Rattle.walking.specs.declared.Window.{Window}
 use Rattle.walking.proofs.Walks.{held_rises}
 use Rattle.walking.proofs.Found.{in_window}
 use Rattle.walking.proofs.Own.{own_from, own_here, no_more, next_same, next_own, own_property_holds, behind_own}
+use Rattle.comparing.specs.Pieces.{same_parameters}
+use Rattle.matching.specs.Alike.{alike, same_property_by}
 use Rattle.matching.specs.Held.{property_in}
+use Rattle.matching.specs.declared.Held.{Held}
+use Rattle.matching.proofs.Alike.{first_same, first_other, both_end, one_ends}
 
 module _ (b : Lent) (row last : ℕ) where
   -- those of the rows from `from` on
@@ -54,3 +62,29 @@ module _ (b : Lent) (row : ℕ) (w : Window) (o : Owns (properties_in b.properti
 
   pub all_left : rest b row w.last w.first ≡ properties_of b.text (properties_in b.properties) (parameters_in b.parameters) row
   all_left = sym (in_window (λ n p rest. property_of b.text (parameters_in b.parameters) n p ∷ rest) [] (properties_in b.properties) o.holds)
+
+-- ---- the walks through two components side by side
+
+module _ (values : List ℕ → List ℕ → Bool) where
+  abbrev same : Property → Property → Bool
+  same = same_property_by values same_parameters
+
+  -- the next two are told apart or not, in tables that are the same
+  module _ {t : Tables} (t1 t2 : Tables) (e : t1 ≡ t) (f : t2 ≡ t) (p q : Held) {all xs all' ys : List Property} (n : all ≡ property_in (held t1) p ∷ xs)
+      (m : all' ≡ property_in (held t2) q ∷ ys) {told : Bool} (d : told ≡ same (property_in (held t) p) (property_in (held t) q))
+    where
+      -- they differ
+      pub differ : told ≡ false → false ≡ alike same all all'
+      differ h = first_other same all all' _ _ _ _ n m (rw (e, f) (sym d ∙ h))
+
+      -- they agree: what is left then compares as the whole
+      pub agree : told ≡ true → alike same xs ys ≡ alike same all all'
+      agree h = first_same same all all' _ _ _ _ n m (rw (e, f) (sym d ∙ h))
+
+  -- the first walk has ended: they are alike exactly if the other ends too
+  pub ended : (n : ℕ) (b : Lent) (r : Option Held) (ended : Bool) → is_some r ≡ not ended → (all all' xs : List Property) → all ≡ []
+      → MatchOption r (all' ≡ []) (λ h. (h.property < n) × (all' ≡ property_in b h ∷ xs)) → ended ≡ alike same all all'
+  ended n b None true e all all' xs z m = both_end same all all' z m
+  ended n b None false e all all' xs z m = cc
+  ended n b (Some h) true e all all' xs z m = cc
+  ended n b (Some h) false e all all' xs z m = one_ends same all all' _ _ z m.1

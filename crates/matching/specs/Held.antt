@@ -1,6 +1,6 @@
 -- Serves inner contracts only. A property as a walk through the window of its component finds it, and those that such a walk has still to come to.
 -- Assumes nothing.
-use Rattle.std.specs.Prelude.{ℕ, List, [], ◌∷◌, ◌-◌, take, drop}
+use Rattle.std.specs.Prelude.{List, [], ◌∷◌, ◌-◌, take, drop}
 use Rattle.tables.specs.Rows.{property_at}
 use Rattle.tables.specs.Lent.{Lent, held, properties_in, parameters_in}
 use Rattle.tables.specs.Trees.{Property, property_of, gather}

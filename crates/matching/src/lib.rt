@@ -124,7 +124,7 @@ impl Properties<'_> {
     // The next one, if one is left.
     fn next(&mut self) -> Option<Held>
         requires { RisingParameters (parameters_in self.old.tables.now.parameters.now) }
-        ensures same_tables { self.new.tables ≡ self.old.tables }
+        ensures same_tables { self.new.tables.now ≡ self.old.tables.now }
         ensures next { MatchOption result (left self.old ≡ [])
             (λ h. (h.property < length self.old.tables.now.properties.now / property_size)
             × (left self.old ≡ property_in (held self.old.tables.now) h ∷ left self.new)) }

@@ -1,7 +1,7 @@
 -- `matching::same_parameters`: both have as many rows, and these are compared as runs.
 use mathlib.Core.Path.{sym, ◌∙◌}
 use native.Mathlib.Omega.{arith}
-use Rattle.matching.proofs.Parameters.{rows_there, other_count, no_rows, as_runs}
+use Rattle.matching.proofs.Parameters.{rows_there, other_count, no_rows}
 use Rattle.matching.proofs.same_parameters.Goals as goal
 
 pub returns-then-run_of-count : goal.returns-then-run_of-count
