@@ -8,7 +8,7 @@ ghost use Rattle.tables.specs.TableRule.{inside, parent_fits, depth_fits, compon
 ghost use Rattle.tables.specs.Lent.{lent, broken_in, components_in, properties_in, parameters_in, held};
 ghost use Rattle.checking.specs.Chains.{chain, Rising};
 
-use tables::{ComponentRow, ParameterRow, PropertyRow, Tables};
+use tables::{ComponentRow, ParameterRow, PropertyRow, Row, Tables};
 
 // Tables that meet the table rule.
 #[derive(Clone, Copy)]
@@ -86,8 +86,8 @@ fn broken_component(size: usize, table: &[u32]) -> Option<usize>
 {
     let mut rows = [0usize; 64];
     let mut depth: usize = 0;
-    for row in 0..tables::component_rows(table) {
-        let c = tables::component_at(table, row);
+    for row in 0..ComponentRow::count(table) {
+        let c = ComponentRow::at(table, row);
         if !component_fits(size, &rows, depth, c) {
             return Some(row);
         }
@@ -102,8 +102,8 @@ fn broken_property(size: usize, components: usize, table: &[u32]) -> Option<usiz
     requires { components + length table.now / property_size ≤ most }
     ensures { result ≡ broken_property size components components (properties_in table.now) }
 {
-    for row in 0..tables::property_rows(table) {
-        if !property_fits(size, components, tables::property_at(table, row)) {
+    for row in 0..PropertyRow::count(table) {
+        if !property_fits(size, components, PropertyRow::at(table, row)) {
             return Some(components + row);
         }
     }
@@ -116,8 +116,8 @@ fn broken_parameter(size: usize, properties: usize, first: usize, table: &[u32])
     ensures { result ≡ broken_parameter size properties first 0 (parameters_in table.now) }
 {
     let mut before: u32 = 0;
-    for row in 0..tables::parameter_rows(table) {
-        let p = tables::parameter_at(table, row);
+    for row in 0..ParameterRow::count(table) {
+        let p = ParameterRow::at(table, row);
         if !parameter_fits(size, properties, before, p) {
             return Some(first + row);
         }
@@ -136,8 +136,8 @@ pub fn first_broken(
     ensures { result ≡ broken_in (lent text.now components.now properties.now parameters.now) }
 {
     let size = text.len();
-    let component_rows = tables::component_rows(components);
-    let property_rows = tables::property_rows(properties);
+    let component_rows = ComponentRow::count(components);
+    let property_rows = PropertyRow::count(properties);
     if component_rows == 0 {
         return Some(0);
     }

@@ -1,17 +1,12 @@
 // Rows of the three tables: only these functions know how many words a row has and in which order they stand.
 #![tactic(auto)]
 
-ghost use Rattle.std.specs.Prelude.{◌≡◌, ◌/◌, ◌<◌, length};
-ghost use Rattle.tables.specs.Rows.{component_size, property_size, parameter_size, component_words, property_words, parameter_words, component_at, property_at, parameter_at, put_row};
+ghost use Rattle.std.specs.Prelude.{◌≡◌, ℕ, ◌+◌, ◌/◌, ◌<◌, ◌≤◌, List, length};
+ghost use Rattle.std.proofs.Common.{rules};
+ghost use Rattle.tables.specs.Rows.{component_size, property_size, parameter_size, component_words, property_words, parameter_words, component_from, property_from, parameter_from, row_at, put_row};
 
 // The parent of a component at the top.
 pub const NO_PARENT: u32 = 4294967295;
-
-pub const COMPONENT_WORDS: usize = 4;
-
-pub const PROPERTY_WORDS: usize = 5;
-
-pub const PARAMETER_WORDS: usize = 6;
 
 #[derive(Clone, Copy)]
 pub struct ComponentRow {
@@ -49,23 +44,41 @@ pub struct Tables<'a> {
     pub parameters: &'a [u32],
 }
 
-// How many whole rows a table has room for.
-pub fn component_rows(table: &[u32]) -> usize
-    ensures { result ≡ length table.now / component_size }
-{
-    table.len() / COMPONENT_WORDS
-}
+// A row of a table: how many words it is, and which.
+pub trait Row: Copy {
+    ghost WORDS: { ℕ };
 
-pub fn property_rows(table: &[u32]) -> usize
-    ensures { result ≡ length table.now / property_size }
-{
-    table.len() / PROPERTY_WORDS
-}
+    ghost words: { Self → List ℕ };
 
-pub fn parameter_rows(table: &[u32]) -> usize
-    ensures { result ≡ length table.now / parameter_size }
-{
-    table.len() / PARAMETER_WORDS
+    ghost from: { List ℕ → ℕ → Self };
+
+    const WORDS: usize;
+
+    // The row whose words start at a place.
+    fn read(table: &[u32], at: usize) -> Self
+        requires { at + WORDS ≤ length table.now }
+        ensures { result ≡ from table.now at };
+
+    // Writes the words of a row, where the table has room for it; otherwise the table stays.
+    fn put(self, table: &mut [u32], row: usize)
+        ensures { table.new ≡ put_row WORDS row (words self) table.old };
+
+    ghost some: { 0 < WORDS };
+
+    // How many whole rows a table has room for.
+    final fn count(table: &[u32]) -> usize
+        ensures { result ≡ length table.now / WORDS }
+    {
+        table.len() / Self::WORDS
+    }
+
+    // Reads a row that the table has.
+    final fn at(table: &[u32], row: usize) -> Self
+        requires { row < length table.now / WORDS }
+        ensures { result ≡ row_at WORDS from table.now row }
+    {
+        Self::read(table, Self::WORDS * row)
+    }
 }
 
 // Writes the words of a row, where the table has room for it; otherwise the table stays.
@@ -81,100 +94,105 @@ fn put_row(words: &[u32], table: &mut [u32], row: usize)
     table[at..at + size].copy_from_slice(words);
 }
 
-pub fn put_component(table: &mut [u32], row: usize, c: ComponentRow)
-    ensures { table.new ≡ put_row component_size row (component_words c) table.old }
-{
-    put_row(&[c.parent, c.depth, c.name_start, c.name_len], table, row)
-}
+impl Row for ComponentRow {
+    ghost WORDS = { component_size };
 
-pub fn put_property(table: &mut [u32], row: usize, p: PropertyRow)
-    ensures { table.new ≡ put_row property_size row (property_words p) table.old }
-{
-    put_row(
-        &[p.owner, p.key_start, p.key_len, p.value_start, p.value_len],
-        table,
-        row,
-    )
-}
+    ghost words = { component_words };
 
-pub fn put_parameter(table: &mut [u32], row: usize, p: ParameterRow)
-    ensures { table.new ≡ put_row parameter_size row (parameter_words p) table.old }
-{
-    put_row(
-        &[
-            p.property,
-            p.key_start,
-            p.key_len,
-            p.present,
-            p.value_start,
-            p.value_len,
-        ],
-        table,
-        row,
-    )
-}
+    ghost from = { component_from };
 
-// Reads a row that the table has.
-pub fn component_at(table: &[u32], row: usize) -> ComponentRow
-    requires { row < length table.now / component_size }
-    ensures { result ≡ component_at table.now row }
-{
-    let at = COMPONENT_WORDS * row;
-    ComponentRow {
-        parent: table[at],
-        depth: table[at + 1],
-        name_start: table[at + 2],
-        name_len: table[at + 3],
+    ghost some = { Prim.search rules };
+
+    const WORDS: usize = 4;
+
+    fn read(table: &[u32], at: usize) -> ComponentRow {
+        ComponentRow {
+            parent: table[at],
+            depth: table[at + 1],
+            name_start: table[at + 2],
+            name_len: table[at + 3],
+        }
+    }
+
+    fn put(self, table: &mut [u32], row: usize) {
+        put_row(
+            &[self.parent, self.depth, self.name_start, self.name_len],
+            table,
+            row,
+        )
     }
 }
 
-pub fn property_at(table: &[u32], row: usize) -> PropertyRow
-    requires { row < length table.now / property_size }
-    ensures { result ≡ property_at table.now row }
-{
-    let at = PROPERTY_WORDS * row;
-    PropertyRow {
-        owner: table[at],
-        key_start: table[at + 1],
-        key_len: table[at + 2],
-        value_start: table[at + 3],
-        value_len: table[at + 4],
+impl Row for PropertyRow {
+    ghost WORDS = { property_size };
+
+    ghost words = { property_words };
+
+    ghost from = { property_from };
+
+    ghost some = { Prim.search rules };
+
+    const WORDS: usize = 5;
+
+    fn read(table: &[u32], at: usize) -> PropertyRow {
+        PropertyRow {
+            owner: table[at],
+            key_start: table[at + 1],
+            key_len: table[at + 2],
+            value_start: table[at + 3],
+            value_len: table[at + 4],
+        }
+    }
+
+    fn put(self, table: &mut [u32], row: usize) {
+        put_row(
+            &[
+                self.owner,
+                self.key_start,
+                self.key_len,
+                self.value_start,
+                self.value_len,
+            ],
+            table,
+            row,
+        )
     }
 }
 
-pub fn parameter_at(table: &[u32], row: usize) -> ParameterRow
-    requires { row < length table.now / parameter_size }
-    ensures { result ≡ parameter_at table.now row }
-{
-    let at = PARAMETER_WORDS * row;
-    ParameterRow {
-        property: table[at],
-        key_start: table[at + 1],
-        key_len: table[at + 2],
-        present: table[at + 3],
-        value_start: table[at + 4],
-        value_len: table[at + 5],
+impl Row for ParameterRow {
+    ghost WORDS = { parameter_size };
+
+    ghost words = { parameter_words };
+
+    ghost from = { parameter_from };
+
+    ghost some = { Prim.search rules };
+
+    const WORDS: usize = 6;
+
+    fn read(table: &[u32], at: usize) -> ParameterRow {
+        ParameterRow {
+            property: table[at],
+            key_start: table[at + 1],
+            key_len: table[at + 2],
+            present: table[at + 3],
+            value_start: table[at + 4],
+            value_len: table[at + 5],
+        }
     }
-}
 
-// The one word of a row that a search looks at: a component's depth, a property's owner, a parameter's property.
-pub fn depth_at(table: &[u32], row: usize) -> u32
-    requires { row < length table.now / component_size }
-    ensures { result ≡ (component_at table.now row).depth }
-{
-    table[COMPONENT_WORDS * row + 1]
-}
-
-pub fn owner_at(table: &[u32], row: usize) -> u32
-    requires { row < length table.now / property_size }
-    ensures { result ≡ (property_at table.now row).owner }
-{
-    table[PROPERTY_WORDS * row]
-}
-
-pub fn property_of(table: &[u32], row: usize) -> u32
-    requires { row < length table.now / parameter_size }
-    ensures { result ≡ (parameter_at table.now row).property }
-{
-    table[PARAMETER_WORDS * row]
+    fn put(self, table: &mut [u32], row: usize) {
+        put_row(
+            &[
+                self.property,
+                self.key_start,
+                self.key_len,
+                self.present,
+                self.value_start,
+                self.value_len,
+            ],
+            table,
+            row,
+        )
+    }
 }

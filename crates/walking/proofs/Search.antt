@@ -1,68 +1,83 @@
--- The search for the first row of a table that is not of a class, one row at a time. Assumes nothing.
-use mathlib.Core.Path.{◌≡◌, sym, ap}
-use mathlib.Core.Bool.{Bool, true, false}
+-- The rows of a class, told by their numbers: the front of a table from a row on, and how many there are of them. Assumes nothing.
+use mathlib.Core.Path.{◌≡◌, refl, sym, ap, ◌∙◌}
+use mathlib.Core.Bool.{Bool, true, false, cond}
 use mathlib.Core.List.{List, [], ◌∷◌}
-use Prim.Native.Nat.{ℕ, suc, ◌+◌, ◌-◌, ◌/◌, ◌≤◌, ◌<◌}
+use Prim.Native.Nat.{ℕ, zero, suc, ◌+◌, ◌-◌, ◌/◌, ◌≤◌, ◌<◌}
 use native.Mathlib.Omega.{arith}
-use lib.ListN.{length, take, drop}
+use lib.ListN.{length, take, drop, length-drop}
+use lib.Seq.{take_all}
+use denote.Param.Members.{Mut}
+use denote.Ref.{Bor}
+use Rattle.std.specs.declared.iter.TakeWhile.{TakeWhile}
+use Rattle.std.specs.declared.ops.Range.{Range}
+use Rattle.std.specs.Fn.{CalledAt}
+use Rattle.std.specs.Iterator.{Drains}
+use Rattle.std.specs.Iterator.Adapters.{take_while_source, take_while_done, take_while_callee, take_while_steps}
+use Rattle.std.specs.List.{filter, prefix_len, range_with_len}
+use Rattle.std.proofs.iter.Yields.{nat_range_steps}
+use Rattle.std.proofs.lemmas.Iterator.{YieldsList-from_range}
+use Rattle.std.proofs.lemmas.Iterator.Consumers.{count_from_yields_List}
+use Rattle.std.proofs.lemmas.Iterator.Search.{YieldsList-from_take_while}
+use Rattle.std.proofs.lemmas.List.Folds.{length-prefix_len}
+use Rattle.octets.specs.Choice.{pick}
 use Rattle.tables.specs.Rows.{rows_of, component_size, component_at}
 use Rattle.tables.specs.Lent.{components_in}
 use Rattle.tables.specs.Fronts.{front}
 use Rattle.tables.specs.declared.ComponentRow.{ComponentRow}
-use Rattle.tables.proofs.Laws.{get_d_tabulate, row_here, rows_end}
-use Rattle.tables.proofs.Fronts.{on, stop, ended}
+use Rattle.tables.proofs.Laws.{get_d_tabulate, length_rows, row_here}
 use Rattle.walking.specs.Walk.{depth_at, tally}
-
-module _ {A : Type 0} (size : ℕ) (at : List ℕ → ℕ → A) (class : A → Bool) (table : List ℕ) where
-  -- where a search ends that starts at row i
-  abbrev pub reach : ℕ → ℕ
-  reach i = i + front class (drop i (rows_of size at table))
-
-  pub goes_on : (i : ℕ) → i < length table / size → class (at table i) ≡ true → reach (i + 1) ≡ reach i
-  goes_on i h t = omega (arith, on class _ _ (at table i) (row_here size at table i h) t)
-
-  pub ends : (i : ℕ) → i < length table / size → class (at table i) ≡ false → reach i ≡ i
-  ends i h t = omega (arith, stop class _ _ (at table i) (row_here size at table i h) t)
-
-  pub runs_out : (i : ℕ) → length table / size ≤ i → reach i ≡ i
-  runs_out i h = omega (arith, ended class _ (rows_end size at table i h))
 
 -- the depth of a row that a table has
 pub depth_there : (table : List ℕ) (row : ℕ) → row < length table / component_size → (component_at table row).depth ≡ depth_at (components_in table) row
 depth_there table row h = ap (λ (c : ComponentRow). c.depth) (sym (get_d_tabulate (length table / component_size) (component_at table) row (component_at [] 0) h))
 
--- only the rows before `last` count
-module _ {A : Type 0} (size : ℕ) (at : List ℕ → ℕ → A) (class : A → Bool) (table : List ℕ) (last : ℕ) where
-  one : (i : ℕ) → i < last → i < length table / size → take (last - i) (drop i (rows_of size at table)) ≡ at table i ∷ take (last - (i + 1)) (drop (i + 1) (rows_of size at table))
-  one i h l = let e : last - i ≡ suc (last - (i + 1)) = omega arith in rw (row_here size at table i l, e)
+one_more : (t : Bool) {m n : ℕ} → m ≡ n → cond t (1 + m) 0 ≡ pick t (suc n) 0
+one_more true e = omega arith
+one_more false e = refl
 
-  -- where a search ends that starts at row i
-  abbrev pub next : ℕ → ℕ
-  next i = i + front class (take (last - i) (drop i (rows_of size at table)))
+one_found : (t : Bool) (i : ℕ) (found : List ℕ) {n : ℕ} → length found ≡ n → length (cond t (i ∷ found) found) ≡ pick t (suc n) n
+one_found true i found e = ap suc e
+one_found false i found e = e
 
-  pub next_on : (i : ℕ) → i < last → i < length table / size → class (at table i) ≡ true → next (i + 1) ≡ next i
-  next_on i h l t = omega (arith, on class _ _ (at table i) (one i h l) t)
+module _ {A : Type 0} (size : ℕ) (at : List ℕ → ℕ → A) (class : A → Bool) (table : List ℕ) where
+  -- whether the row with a number is of the class
+  abbrev pub is_of : ℕ → Bool
+  is_of i = class (at table i)
 
-  pub next_here : (i : ℕ) → i < last → i < length table / size → class (at table i) ≡ false → next i ≡ i
-  next_here i h l t = omega (arith, stop class _ _ (at table i) (one i h l) t)
+  -- the rows from `from` up to `last`
+  abbrev between : ℕ → ℕ → List A
+  between from last = take (last - from) (drop from (rows_of size at table))
 
-  pub next_none : (i : ℕ) → last ≤ i → next i ≡ i
-  next_none i h =
-      let e : last - i ≡ 0 = omega arith in
-      omega (arith, ended class (take (last - i) (drop i (rows_of size at table))) (rw e))
+  front_by_number : (last n from : ℕ) → last ≤ length table / size → n ≡ last - from
+      → prefix_len is_of (range_with_len from n) ≡ front class (between from last)
+  unfolding front
+  front_by_number last zero from h e = rw (← e)
+  front_by_number last (suc n) from h e =
+      let l : from < length table / size = omega arith in
+      let m : n ≡ last - (from + 1) = omega arith in
+      rw (← e, row_here size at table from l) (one_more (is_of from) (rw (← m) at (front_by_number last n (from + 1) h m)))
 
-  -- how many rows there are of the class, one row at a time
-  abbrev pub count : ℕ → ℕ
-  count i = tally class (take (last - i) (drop i (rows_of size at table)))
-
-  pub counts : (i : ℕ) → i < last → i < length table / size → class (at table i) ≡ true → count i ≡ suc (count (i + 1))
+  pub tally_by_number : (last n from : ℕ) → last ≤ length table / size → n ≡ last - from
+      → length (filter is_of (range_with_len from n)) ≡ tally class (between from last)
   unfolding tally
-  counts i h l t = rw (one i h l, t)
+  tally_by_number last zero from h e = rw (← e)
+  tally_by_number last (suc n) from h e =
+      let l : from < length table / size = omega arith in
+      let m : n ≡ last - (from + 1) = omega arith in
+      rw (← e, row_here size at table from l) (one_found (is_of from) from _ (rw (← m) at (tally_by_number last n (from + 1) h m)))
 
-  pub skips : (i : ℕ) → i < last → i < length table / size → class (at table i) ≡ false → count i ≡ count (i + 1)
-  unfolding tally
-  skips i h l t = rw (one i h l, t)
+  -- numbers taken while their rows are of the class, and counted
+  module _ {F : Type 0} {g : Mut F (Bor ℕ × Unit {0}) Bool} {f : F} (s : TakeWhile (Range ℕ) F) (from last r : ℕ)
+      (numbers : take_while_source s ≡ record { start = from; end = last }) (callee : take_while_callee s ≡ f) (fresh : take_while_done s ≡ false)
+      (calls : (x : ℕ) (b : Bool) (q : F) → CalledAt g f x b q → (q ≡ f) × (b ≡ is_of x))
+      (counts : (xs : List ℕ) × Drains (take_while_steps nat_range_steps g) s xs × (r ≡ length xs)) where
+    pub front_before : last ≤ length table / size → r ≡ front class (between from last)
+    front_before h =
+        count_from_yields_List s r counts
+        (YieldsList-from_take_while g is_of (YieldsList-from_range from last (last - from) numbers refl) callee fresh calls)
+        ∙ length-prefix_len is_of (range_with_len from (last - from)) ∙ front_by_number last (last - from) from h refl
 
-  pub no_more : (i : ℕ) → last ≤ i → count i ≡ 0
-  unfolding tally
-  no_more i h = let e : last - i ≡ 0 = omega arith in rw e
+    pub front_on : last ≡ length table / size → r ≡ front class (drop from (rows_of size at table))
+    front_on e =
+        front_before (omega arith)
+        ∙ ap (front class) (take_all (last - from) (drop from (rows_of size at table)) (omega (arith, length-drop from (rows_of size at table), length_rows size at table)))

@@ -11,7 +11,7 @@ ghost use Rattle.walking.specs.Walk.{deeper, end_of, owned_before, owned_within,
 ghost use Rattle.walking.specs.Places.{rises};
 
 use checking::Checked;
-use tables::Tables;
+use tables::{ComponentRow, ParameterRow, PropertyRow, Row, Tables};
 
 // How far a walk through the component rows has come in the two other tables.
 #[derive(Clone, Copy)]
@@ -92,75 +92,55 @@ pub fn end_of(components: &[u32], row: usize) -> usize
     requires { row < length components.now / component_size }
     ensures { result ≡ end_of (components_in components.now) row }
 {
-    let depth = tables::depth_at(components, row);
-    let mut i = row + 1;
-    while i < tables::component_rows(components) {
-        if tables::depth_at(components, i) <= depth {
-            return i;
-        }
-        i += 1;
-    }
-    i
+    let depth = ComponentRow::at(components, row).depth;
+    let rows = ComponentRow::count(components);
+    row + 1
+        + (row + 1..rows)
+            .take_while(|i| depth < ComponentRow::at(components, *i).depth)
+            .count()
 }
 
 // The first property from `from` on that belongs to no earlier component.
 pub fn first_from(properties: &[u32], from: usize, row: usize) -> usize
     ensures { result ≡ from + front (owned_before row) (drop from (properties_in properties.now)) }
 {
-    let mut i = from;
-    while i < tables::property_rows(properties) {
-        let owner = tables::owner_at(properties, i) as usize;
-        if row <= owner {
-            return i;
-        }
-        i += 1;
-    }
-    i
+    let rows = PropertyRow::count(properties);
+    from + (from..rows)
+        .take_while(|i| (PropertyRow::at(properties, *i).owner as usize) < row)
+        .count()
 }
 
 // The first property from `from` on that belongs to none of the components from `row` up to `end`.
 fn last_within(properties: &[u32], from: usize, row: usize, end: usize) -> usize
     ensures { result ≡ from + front (owned_within row end) (drop from (properties_in properties.now)) }
 {
-    let mut i = from;
-    while i < tables::property_rows(properties) {
-        let owner = tables::owner_at(properties, i) as usize;
-        if !((row <= owner) & (owner < end)) {
-            return i;
-        }
-        i += 1;
-    }
-    i
+    let rows = PropertyRow::count(properties);
+    from + (from..rows)
+        .take_while(|i| {
+            let owner = PropertyRow::at(properties, *i).owner as usize;
+            (row <= owner) & (owner < end)
+        })
+        .count()
 }
 
 // The first parameter from `from` on that belongs to no earlier property.
 pub fn first_held(parameters: &[u32], from: usize, property: usize) -> usize
     ensures { result ≡ from + front (held_before property) (drop from (parameters_in parameters.now)) }
 {
-    let mut i = from;
-    while i < tables::parameter_rows(parameters) {
-        let held = tables::property_of(parameters, i) as usize;
-        if property <= held {
-            return i;
-        }
-        i += 1;
-    }
-    i
+    let rows = ParameterRow::count(parameters);
+    from + (from..rows)
+        .take_while(|i| (ParameterRow::at(parameters, *i).property as usize) < property)
+        .count()
 }
 
 // How many parameters from `from` on belong to a property: they stand in one run.
 pub fn run_of(parameters: &[u32], from: usize, property: usize) -> usize
     ensures { result ≡ front (belongs property) (drop from (parameters_in parameters.now)) }
 {
-    let mut i = from;
-    while i < tables::parameter_rows(parameters) {
-        let held = tables::property_of(parameters, i) as usize;
-        if held != property {
-            return i - from;
-        }
-        i += 1;
-    }
-    i - from
+    let rows = ParameterRow::count(parameters);
+    (from..rows)
+        .take_while(|i| ParameterRow::at(parameters, *i).property as usize == property)
+        .count()
 }
 
 // The first property from `from` up to `last` that belongs to a component; `last` where there is none.
@@ -168,15 +148,9 @@ pub fn next_own(properties: &[u32], row: usize, from: usize, last: usize) -> usi
     requires { last ≤ length properties.now / property_size }
     ensures { result ≡ from + front (owned_by_other row) (take (last - from) (drop from (properties_in properties.now))) }
 {
-    let mut i = from;
-    while i < last {
-        let owner = tables::owner_at(properties, i) as usize;
-        if owner == row {
-            return i;
-        }
-        i += 1;
-    }
-    i
+    from + (from..last)
+        .take_while(|i| PropertyRow::at(properties, *i).owner as usize != row)
+        .count()
 }
 
 // How many of the properties from `first` up to `last` belong to a component.
@@ -184,16 +158,9 @@ fn own_rows(properties: &[u32], row: usize, first: usize, last: usize) -> usize
     requires { last ≤ length properties.now / property_size }
     ensures { result ≡ tally (owned_by row) (take (last - first) (drop first (properties_in properties.now))) }
 {
-    let mut own: usize = 0;
-    let mut i = first;
-    while i < last {
-        let owner = tables::owner_at(properties, i) as usize;
-        if owner == row {
-            own += 1;
-        }
-        i += 1;
-    }
-    own
+    (first..last)
+        .filter(|i| PropertyRow::at(properties, *i).owner as usize == row)
+        .count()
 }
 
 // Whether every property stands in its owner's window. The windows are gone through in the order of the components, and their first rows only rise.
@@ -202,14 +169,12 @@ pub fn in_order(components: &[u32], properties: &[u32]) -> bool
 {
     let mut found: usize = 0;
     let mut first: usize = 0;
-    let mut row: usize = 0;
-    while row < tables::component_rows(components) {
+    for row in 0..ComponentRow::count(components) {
         first = first_from(properties, first, row);
         let last = last_within(properties, first, row, end_of(components, row));
         found += own_rows(properties, row, first, last);
-        row += 1;
     }
-    found == tables::property_rows(properties)
+    found == PropertyRow::count(properties)
 }
 
 // The window of a component; all rows, where the tables are not in order.
@@ -236,7 +201,7 @@ pub fn window_of(
     if !ordered {
         return Window {
             first: 0,
-            last: tables::property_rows(properties),
+            last: PropertyRow::count(properties),
             parameter: 0,
             end: end,
             cursor: next,
@@ -263,10 +228,7 @@ pub fn children_end(level: usize, first: usize, end: usize) -> usize
 fn is_below(components: &[u32], row: usize, depth: u32) -> bool
     ensures { result ≡ stands component_size component_at (deeper depth) components.now row }
 {
-    if tables::component_rows(components) <= row {
-        return false;
-    }
-    depth < tables::depth_at(components, row)
+    row < ComponentRow::count(components) && depth < ComponentRow::at(components, row).depth
 }
 
 // Whether the subtrees of two components have equally many rows. It looks no further than the shorter one goes.
@@ -274,8 +236,8 @@ pub fn same_size(components: &[u32], first: usize, second: usize) -> bool
     requires { (first < length components.now / component_size) × (second < length components.now / component_size) }
     ensures { result ≡ eqb (end_of (components_in components.now) first - first) (end_of (components_in components.now) second - second) }
 {
-    let one = tables::depth_at(components, first);
-    let other = tables::depth_at(components, second);
+    let one = ComponentRow::at(components, first).depth;
+    let other = ComponentRow::at(components, second).depth;
     let mut i = first + 1;
     let mut j = second + 1;
     while is_below(components, i, one) {

@@ -7,11 +7,11 @@ loop-row-init c = nothing _ _ _ refl
 
 pub returns-then-not-component_fits : goal.returns-then-not-component_fits
 returns-then-not-component_fits c =
-    breaks _ _ c.loop-row.invariant (omega arith) _ c.component_at-c.ensures (sym c.component_fits.ensures ∙ c.if-not-component_fits.true)
+    breaks _ _ c.loop-row.invariant (omega arith) _ c.at-c.ensures (sym c.component_fits.ensures ∙ c.if-not-component_fits.true)
 
 pub loop-row-preserved : goal.loop-row-preserved
 loop-row-preserved c =
-    more _ _ c.loop-row.invariant (omega arith) _ c.component_at-c.ensures (sym c.component_fits.ensures ∙ c.if-not-component_fits.false)
+    more _ _ c.loop-row.invariant (omega arith) _ c.at-c.ensures (sym c.component_fits.ensures ∙ c.if-not-component_fits.false)
 
 pub returns : goal.returns
 returns c = none _ _ c.loop-row.invariant (omega arith)

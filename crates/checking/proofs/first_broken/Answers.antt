@@ -6,16 +6,16 @@ use Rattle.checking.proofs.Whole.{or_next, no_component, in_turn}
 use Rattle.checking.proofs.first_broken.Goals as goal
 
 pub returns-then-component_rows-eq0 : goal.returns-then-component_rows-eq0
-returns-then-component_rows-eq0 c = no_component _ _ c.component_rows-component_rows.ensures c.if-component_rows-eq0.true
+returns-then-component_rows-eq0 c = no_component _ _ c.count-component_rows.ensures c.if-component_rows-eq0.true
 
 pub returns : goal.returns
 returns c =
     let a = c.args in
-    let n = c.component_rows-component_rows.result in
-    let m = c.property_rows-property_rows.result in
+    let n = c.count-component_rows.result in
+    let m = c.count-property_rows.result in
     let next = broken_property (length a.text.now) n n (properties_in a.properties.now) in
     let last = broken_parameter (length a.text.now) m (n + m) 0 (parameters_in a.parameters.now) in
-    in_turn (lent a.text.now a.components.now a.properties.now a.parameters.now) n c.component_rows-component_rows.ensures c.if-component_rows-eq0.false
-    m c.property_rows-property_rows.ensures _ _ _ c.broken_component.ensures
+    in_turn (lent a.text.now a.components.now a.properties.now a.parameters.now) n c.count-component_rows.ensures c.if-component_rows-eq0.false
+    m c.count-property_rows.ensures _ _ _ c.broken_component.ensures
     (or_next c.broken_component.result c.or_else.result next (search rules) c.or_else.ensures)
     (or_next c.or_else.result c.or_else-2.result last (search rules) c.or_else-2.ensures)
