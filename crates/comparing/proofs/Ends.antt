@@ -23,9 +23,6 @@ module _ (text table : List ℕ) where
   -- ---- the front, one row at a time
 
   module _ (a b : ℕ) where
-    pub front_starts : (count : ℕ) → agreeing_front text table (a + 0) (b + 0) (count - 0) ≡ agreeing_front text table a b count
-    front_starts count = rw (add-zero, add-zero, sub-zero)
-
     pub front_on : (count i : ℕ) → i < count → {t : Bool} → agree (a + i) (b + i) ≡ t
         → agreeing_front text table (a + i) (b + i) (count - i) ≡ pick t (suc (agreeing_front text table (a + (i + 1)) (b + (i + 1)) (count - (i + 1)))) 0
     unfolding agreeing_front

@@ -1,19 +1,16 @@
--- The pieces are compared by equivalences, keys in lower case stay as they are, and two parameter rows are compared piece by piece. Assumes nothing.
+-- The pieces are compared by equivalences, and keys in lower case stay as they are. Assumes nothing.
 use mathlib.Core.Path.{◌≡◌, refl, ap}
 use mathlib.Core.Bool.{Bool, true, false, and-false}
 use mathlib.Core.List.{List, [], ◌∷◌, map}
 use Prim.Native.Nat.{ℕ, ◌+◌}
 use native.Mathlib.Omega.{arith}
-use lib.Dec.{eqb, leb}
-use borrow.Author.Tests.{eq-eqb, ne_eqb, leb-true, lt-leb}
+use lib.Dec.{leb}
+use borrow.Author.Tests.{leb-true, lt-leb}
 use Rattle.octets.specs.Bytes.{capital, lowered}
 use Rattle.octets.specs.Choice.{pick}
-use Rattle.octets.specs.Views.{viewed}
-use Rattle.octets.specs.Words.{same_bytes}
 use Rattle.octets.proofs.Bools.{both}
 use Rattle.octets.proofs.Words.{same_eq, same_refl}
-use Rattle.tables.specs.Trees.{Value, absent, present, Parameter, parameter_of}
-use Rattle.tables.specs.declared.ParameterRow.{ParameterRow}
+use Rattle.tables.specs.Trees.{Value, absent, present, Parameter}
 use Rattle.comparing.specs.Pieces.{same_key, same_held, same_parameter, same_parameters}
 use Rattle.comparing.proofs.Equivalences.{Equivalence, of_equals, of_bytes, of_parts, of_both}
 use Rattle.comparing.proofs.Multisets.{of_multisets}
@@ -49,36 +46,3 @@ of_parameter = of_both (of_parts (λ (p : Parameter). p.key) of_keys) (of_parts 
 
 pub of_parameters : Equivalence same_parameters
 of_parameters = of_multisets of_parameter
-
--- ---- two parameters
-
--- a test of two rows, as they are read
-pub as_read : (test : Parameter → Parameter → Bool) (text : List ℕ) {r : Bool} {p q p' q' : ParameterRow} → r ≡ test (parameter_of text p) (parameter_of text q)
-    → p ≡ p' → q ≡ q' → r ≡ test (parameter_of text p') (parameter_of text q')
-as_read test text e f g = cc
-
-module _ (text : List ℕ) (p q : ParameterRow) where
-  abbrev pub keys : Bool
-  keys = same_key (viewed text p.key_start p.key_len) (viewed text q.key_start q.key_len)
-
-  abbrev told : Bool
-  told = same_parameter (parameter_of text p) (parameter_of text q)
-
-  pub other_key : keys ≡ false → false ≡ told
-  other_key k = rw k
-
-  -- the first has no value: then the other has none either
-  pub one_absent : keys ≡ true → p.present ≡ 0 → eqb q.present 0 ≡ told
-  one_absent k e = rw (k, eq-eqb p.present 0 e) (go (eqb q.present 0))
-    where
-      go : (t : Bool) → t ≡ same_held absent (pick t absent (present (viewed text q.value_start q.value_len)))
-      go true = refl
-      go false = refl
-
-  -- only the other has none
-  pub other_absent : keys ≡ true → (p.present ≡ 0 → ⊥) → q.present ≡ 0 → false ≡ told
-  other_absent k e f = rw (k, ne_eqb p.present 0 e, eq-eqb q.present 0 f)
-
-  pub both_present : keys ≡ true → (p.present ≡ 0 → ⊥) → (q.present ≡ 0 → ⊥)
-      → same_bytes (viewed text p.value_start p.value_len) (viewed text q.value_start q.value_len) ≡ told
-  both_present k e f = rw (k, ne_eqb p.present 0 e, ne_eqb q.present 0 f)

@@ -1,13 +1,16 @@
 -- A run of parameter rows, and each row of a run counted in it and in another. Assumes nothing.
-use mathlib.Core.Path.{◌≡◌, sym, ap, ◌∙◌}
+use mathlib.Core.Path.{◌≡◌, refl, sym, ap, ◌∙◌}
 use mathlib.Core.Bool.{Bool, true, false}
 use mathlib.Core.List.{List, [], ◌∷◌, ◌++◌, map-append}
-use Prim.Native.Nat.{ℕ, suc, ◌+◌, ◌-◌, ◌/◌, ◌≤◌, ◌<◌, zero-le}
-use native.Mathlib.Nat.{add-zero, sub-zero}
+use Prim.Native.Nat.{ℕ, zero, suc, ◌+◌, ◌-◌, ◌/◌, ◌≤◌, ◌<◌, zero-le}
+use native.Mathlib.Nat.{zero-add}
 use native.Mathlib.Omega.{arith}
 use lib.ListN.{length, take, drop, length-drop, length-map}
 use lib.Seq.{length-take-le, take-add, drop-drop}
 use borrow.Author.Tests.{ltb-true, ltb-false}
+use Rattle.std.specs.Bool.{MatchBool}
+use Rattle.std.specs.List.{AllWithin, HoldsAt, range_with_len}
+use Rattle.std.proofs.lemmas.List.FromFn.{get_or-range_with_len, length-range_with_len}
 use Rattle.octets.specs.Choice.{pick}
 use Rattle.tables.specs.Rows.{parameter_size, parameter_at}
 use Rattle.tables.specs.Lent.{parameters_in}
@@ -44,10 +47,11 @@ module _ (text table : List ℕ) where
   -- ---- one row counted in a run
 
   module _ (row first : ℕ) where
-    pub count_starts : (count : ℕ) → many_in text table row (first + 0) (count - 0) ≡ many_in text table row first count
-    count_starts count = rw (add-zero, sub-zero)
+    pub count_none : many_in text table row first 0 ≡ 0
+    unfolding many_of
+    count_none = refl
 
-    pub count_on : (count i : ℕ) → i < count → first + i < length table / parameter_size
+    count_on : (count i : ℕ) → i < count → first + i < length table / parameter_size
         → {t : Bool} → same_parameter (parameter_in text table row) (parameter_in text table (first + i)) ≡ t
         → many_in text table row (first + i) (count - i) ≡ pick t 1 0 + many_in text table row (first + (i + 1)) (count - (i + 1))
     unfolding many_of
@@ -56,12 +60,26 @@ module _ (text table : List ℕ) where
         let s : first + i + 1 ≡ first + (i + 1) = omega arith in
         rw (n, run_from (first + i) (count - (i + 1)) l, e, s)
 
-    pub count_over : (count i : ℕ) → count ≤ i → many_in text table row (first + i) (count - i) ≡ 0
-    unfolding many_of
-    count_over count i h = let e : count - i ≡ 0 = omega arith in rw e
-
     count_then : (n m : ℕ) → many_in text table row first (n + m) ≡ many_in text table row first n + many_in text table row (first + n) m
     count_then n m = rw (run_then first n m) (many_append same_parameter (parameter_in text table row) (run_in text table first n) (run_in text table (first + n) m))
+
+    -- with row i of the run
+    pub count_more : (i : ℕ) → first + i < length table / parameter_size
+        → {t : Bool} → same_parameter (parameter_in text table row) (parameter_in text table (first + i)) ≡ t
+        → many_in text table row first (i + 1) ≡ many_in text table row first i + pick t 1 0
+    unfolding many_of
+    count_more i l e = rw e at more
+      where
+        more : many_in text table row first (i + 1) ≡ many_in text table row first i + pick (same_parameter (parameter_in text table row) (parameter_in text table (first + i))) 1 0
+        more =
+            rw (run_more first i l)
+            (omega (arith, many_append same_parameter (parameter_in text table row) (run_in text table first i) (parameter_in text table (first + i) ∷ [])))
+
+    -- no fewer than in the first n of them
+    pub count_up_to : (n count : ℕ) → n ≤ count → many_in text table row first n ≤ many_in text table row first count
+    count_up_to n count h =
+        let s : count ≡ n + (count - n) = omega arith in
+        omega (arith, ap (many_in text table row first) s, count_then n (count - n))
 
   -- a row is itself one more of its kind than stand before it
   pub ranked : (first count i : ℕ) → i < count → first + i < length table / parameter_size
@@ -103,3 +121,24 @@ module _ (text table : List ℕ) where
     all_told h k i f so =
         sym ((as_often_exactly of_parameter (run_in text table a count) (run_in text table b count)).1
         (within_all of_parameter (run_in text table a count) (run_in text table b count) (length_run a count h ∙ sym (length_run b count k)) (rw f at so)))
+
+    -- each row asked about has one
+    settled_up_to : (i : ℕ) → a + i ≤ length table / parameter_size → ((k : ℕ) → k < i → settled text table a b count k ≡ true) → SettledTo text table a b count i
+    settled_up_to zero h each = settle_none
+    settled_up_to (suc i) h each =
+        let s : i + 1 ≡ suc i = omega arith in
+        let so = settle_on i (omega (arith, h)) (settled_up_to i (omega (arith, h)) (λ k l. each k (omega (arith, l)))) (each i (omega arith)) in
+        rw s at so
+
+    -- each row of the first has one exactly where the runs are the same
+    pub all_settled_same : a + count ≤ length table / parameter_size → b + count ≤ length table / parameter_size → (result : Bool)
+        → MatchBool result (AllWithin (λ k. settled text table a b count k ≡ true) (range_with_len 0 count) 0 (length (range_with_len 0 count)))
+        ((k : ℕ) × (k < length (range_with_len 0 count)) × HoldsAt (λ k. settled text table a b count k ≡ false) (range_with_len 0 count) k)
+        → result ≡ same_runs text table a b count
+    all_settled_same h k true all =
+        all_told h k count refl
+        (settled_up_to count h
+        (λ i l. rw (get_or-range_with_len 0 count i 0 l, zero-add i) at (all i 0 zero-le (rw (length-range_with_len 0 count) l))))
+    all_settled_same h k false (i, l, none) =
+        let m : i < count = rw (length-range_with_len 0 count) at l in
+        not_settled i (omega (arith, h, m)) m (rw (get_or-range_with_len 0 count i 0 m, zero-add i) at (none 0))

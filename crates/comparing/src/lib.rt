@@ -78,112 +78,96 @@ pub fn same_rows(text: &[u8], parameters: &[u32], p: usize, q: usize) -> bool
     )
 }
 
-// How many rows at the front of two runs are the same one by one: the runs are as alike as what is behind them.
-pub fn agreeing_front(text: &[u8], parameters: &[u32], a: usize, b: usize, count: usize) -> usize
-    requires { (a + count ≤ length parameters.now / parameter_size) × (b + count ≤ length parameters.now / parameter_size) }
-    ensures { result ≡ agreeing_front text.now parameters.now a b count }
-{
-    let mut i: usize = 0;
-    while i < count {
-        if !same_rows(text, parameters, a + i, b + i) {
-            return i;
-        }
-        i += 1;
-    }
-    i
+// Two runs of equally many parameter rows of a table, the one from row a on and the other from row b on, with the text that they speak of.
+#[derive(Clone, Copy)]
+pub struct Runs<'a> {
+    pub text: &'a [u8],
+    pub parameters: &'a [u32],
+    pub a: usize,
+    pub b: usize,
+    pub count: usize,
+    ghost a_inside: { a + count ≤ length parameters.now / parameter_size },
+    ghost b_inside: { b + count ≤ length parameters.now / parameter_size },
 }
 
-// How many rows are left of two runs without those at the end that are the same one by one.
-pub fn without_agreeing_back(
-    text: &[u8],
-    parameters: &[u32],
-    a: usize,
-    b: usize,
-    count: usize,
-) -> usize
-    requires { (a + count ≤ length parameters.now / parameter_size) × (b + count ≤ length parameters.now / parameter_size) }
-    ensures { result ≡ without_agreeing_back text.now parameters.now a b count }
-{
-    let mut left = count;
-    while 0 < left {
-        if !same_rows(text, parameters, a + (left - 1), b + (left - 1)) {
-            return left;
-        }
-        left -= 1;
-    }
-    left
-}
-
-// How many of a run are the same as that of the row.
-fn many_in(text: &[u8], parameters: &[u32], row: usize, first: usize, count: usize) -> usize
-    requires { (row < length parameters.now / parameter_size) × (first + count ≤ length parameters.now / parameter_size) }
-    ensures { result ≡ many_in text.now parameters.now row first count }
-{
-    let mut found: usize = 0;
-    let mut i: usize = 0;
-    while i < count {
-        if same_rows(text, parameters, row, first + i) {
-            found += 1;
-        }
-        i += 1;
-    }
-    found
-}
-
-// Whether more rows of a run than so many are the same as the row. It counts down and stops at the first row beyond them.
-fn more_than(
-    text: &[u8],
-    parameters: &[u32],
-    row: usize,
-    first: usize,
-    count: usize,
-    many: usize,
-) -> bool
-    requires { (row < length parameters.now / parameter_size) × (first + count ≤ length parameters.now / parameter_size) }
-    ensures { result ≡ ltb many (many_in text.now parameters.now row first count) }
-{
-    let mut left = many;
-    let mut i: usize = 0;
-    while i < count {
-        if same_rows(text, parameters, row, first + i) {
-            if left == 0 {
-                return true;
+impl Runs<'_> {
+    // How many rows at the front of both are the same one by one: the runs are as alike as what is behind them.
+    pub fn agreeing_front(&self) -> usize
+        ensures within { result ≤ self.now.count }
+        ensures value { result ≡ agreeing_front self.now.text.now self.now.parameters.now self.now.a self.now.b self.now.count }
+    {
+        for i in 0..self.count {
+            if !same_rows(self.text, self.parameters, self.a + i, self.b + i) {
+                return i;
             }
+        }
+        self.count
+    }
+
+    // How many rows are left of both without those at the end that are the same one by one.
+    pub fn without_agreeing_back(&self) -> usize
+        ensures within { result ≤ self.now.count }
+        ensures value { result ≡ without_agreeing_back self.now.text.now self.now.parameters.now self.now.a self.now.b self.now.count }
+    {
+        // What is left is the answer, so it is counted down: a range taken from its end would be no plainer.
+        let mut left = self.count;
+        while 0 < left
+            && same_rows(
+                self.text,
+                self.parameters,
+                self.a + (left - 1),
+                self.b + (left - 1),
+            )
+        {
             left -= 1;
         }
-        i += 1;
+        left
     }
-    false
-}
 
-// Whether the second run has a row for row i of the first: more that are like it than stand before it in the first, as each of those needs one of
-// its own.
-pub fn is_settled(
-    text: &[u8],
-    parameters: &[u32],
-    a: usize,
-    b: usize,
-    count: usize,
-    i: usize,
-) -> bool
-    requires { (a + count ≤ length parameters.now / parameter_size) × (b + count ≤ length parameters.now / parameter_size) × (i < count) }
-    ensures { result ≡ settled text.now parameters.now a b count i }
-{
-    let before = many_in(text, parameters, a + i, a, i);
-    more_than(text, parameters, a + i, b, count, before)
-}
-
-// Whether two runs of equally many rows hold the same parameters: each row of the first has its own in the second, so the second has no others.
-pub fn all_settled(text: &[u8], parameters: &[u32], a: usize, b: usize, count: usize) -> bool
-    requires { (a + count ≤ length parameters.now / parameter_size) × (b + count ≤ length parameters.now / parameter_size) }
-    ensures { result ≡ same_runs text.now parameters.now a b count }
-{
-    let mut i: usize = 0;
-    while i < count {
-        if !is_settled(text, parameters, a, b, count, i) {
-            return false;
+    // How many rows before row i of the first run are the same as it.
+    fn many_before(&self, i: usize) -> usize
+        requires { i < self.now.count }
+        ensures { result ≡ many_in self.now.text.now self.now.parameters.now (self.now.a + i) self.now.a i }
+    {
+        let mut found: usize = 0;
+        for k in 0..i {
+            if same_rows(self.text, self.parameters, self.a + i, self.a + k) {
+                found += 1;
+            }
         }
-        i += 1;
+        found
     }
-    true
+
+    // Whether more rows of the second run than so many are the same as row i of the first. It counts down and stops at the first row beyond them.
+    fn more_than(&self, i: usize, many: usize) -> bool
+        requires { i < self.now.count }
+        ensures { result ≡ ltb many (many_in self.now.text.now self.now.parameters.now (self.now.a + i) self.now.b self.now.count) }
+    {
+        let mut left = many;
+        for k in 0..self.count {
+            if same_rows(self.text, self.parameters, self.a + i, self.b + k) {
+                if left == 0 {
+                    return true;
+                }
+                left -= 1;
+            }
+        }
+        false
+    }
+
+    // Whether the second run has a row for row i of the first: more that are like it than stand before it in the first, as each of those needs one of
+    // its own.
+    pub fn is_settled(&self, i: usize) -> bool
+        requires { i < self.now.count }
+        ensures { result ≡ settled self.now.text.now self.now.parameters.now self.now.a self.now.b self.now.count i }
+    {
+        self.more_than(i, self.many_before(i))
+    }
+
+    // Whether both runs hold the same parameters: each row of the first has its own in the second, so the second has no others.
+    pub fn all_settled(&self) -> bool
+        ensures { result ≡ same_runs self.now.text.now self.now.parameters.now self.now.a self.now.b self.now.count }
+    {
+        (0..self.count).all(|i| self.is_settled(i))
+    }
 }

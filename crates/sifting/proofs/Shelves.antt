@@ -2,12 +2,15 @@
 use mathlib.Core.Path.{◌≡◌, refl, sym, ap, ◌∙◌}
 use mathlib.Core.Bool.{Bool, true, false, ◌&&◌}
 use mathlib.Core.List.{List}
-use Prim.Native.Nat.{ℕ, zero, suc, ◌+◌, ◌/◌, ◌≤◌, ◌<◌}
+use Prim.Native.Nat.{ℕ, zero, suc, ◌+◌, ◌-◌, ◌/◌, ◌≤◌, ◌<◌}
 use native.Mathlib.Omega.{arith}
 use lib.ListN.{length, get_or, set}
 use lib.Seq.{get_or-set_same, get_or-set_other}
 use lib.Dec.{eqb, ltb}
-use borrow.Author.Tests.{eqb-true, eqb-false, lt-ltb, le-ltb}
+use Rattle.std.specs.Prelude.{◌≢◌, Option, Some, None}
+use Rattle.std.specs.List.{insert}
+use Rattle.std.proofs.lemmas.List.Edits.{length-insert, get_or-insert_at, get_or-insert_below, get_or-insert_above}
+use borrow.Author.Tests.{eqb-true, eqb-false, ltb-true, ltb-false, lt-ltb, le-ltb}
 use Rattle.octets.specs.Choice.{pick}
 use Rattle.octets.proofs.Bools.{both}
 use Rattle.tables.specs.Trees.{Parameter}
@@ -15,7 +18,7 @@ use Rattle.comparing.specs.Pieces.{same_parameter}
 use Rattle.comparing.proofs.Multisets.{as_same}
 use Rattle.comparing.proofs.Pieces.{of_parameter}
 use Rattle.sifting.specs.Orders.{precedes}
-use Rattle.sifting.specs.Shelves.{shelf_size, Stand, halve, shelved, looked_for, landing}
+use Rattle.sifting.specs.Shelves.{Stand, halve, shelved, looked_for, landing}
 use Rattle.sifting.proofs.Orders.{same_place}
 
 -- ---- the search
@@ -66,69 +69,67 @@ halve_same f g h (suc fuel) lo hi =
 
 -- the choice between a place and none, by what stands there
 module _ (n : ℕ) (there : ℕ → Bool) where
-  abbrev choice : ℕ → ℕ
-  choice m = pick (ltb m n && there m) m shelf_size
+  abbrev choice : ℕ → Option ℕ
+  choice m = pick (ltb m n && there m) (Some m) None
 
-  chosen : (s m : ℕ) → s ≡ m → s < n → there s ≡ true → s ≡ choice m
+  chosen : (s m : ℕ) → s ≡ m → s < n → there s ≡ true → Some s ≡ choice m
   chosen s m e h t = rw (← e, lt-ltb s n h, t)
 
-  not_chosen : (s m : ℕ) → s ≡ m → s < n → there s ≡ false → shelf_size ≡ choice m
+  not_chosen : (s m : ℕ) → s ≡ m → s < n → there s ≡ false → None ≡ choice m
   not_chosen s m e h t = rw (← e, lt-ltb s n h, t)
 
-  was_chosen : (m : ℕ) → choice m < shelf_size → (choice m ≡ m) × (there m ≡ true)
-  was_chosen m h = go (ltb m n && there m) refl h
+  was_chosen : (m j : ℕ) → choice m ≡ Some j → (m ≡ j) × (there m ≡ true)
+  was_chosen m j h = go (ltb m n && there m) refl h
     where
-      go : (t : Bool) → ltb m n && there m ≡ t → pick t m shelf_size < shelf_size → (pick t m shelf_size ≡ m) × (there m ≡ true)
-      go true e h = (refl, (both (ltb m n) (there m) e).1)
-      go false e h = absurd (omega (arith, h))
+      go : (t : Bool) → ltb m n && there m ≡ t → pick t (Some m) None ≡ Some j → (m ≡ j) × (there m ≡ true)
+      go true e h = (cc, (both (ltb m n) (there m) e).1)
+      go false e h = cc
 
-choice_same : (n s m : ℕ) (t u : Bool) → s ≡ m → t ≡ u → pick (ltb s n && t) s shelf_size ≡ pick (ltb m n && u) m shelf_size
+choice_same : (n s m : ℕ) (t u : Bool) → s ≡ m → t ≡ u → pick {A = Option ℕ} (ltb s n && t) (Some s) None ≡ pick (ltb m n && u) (Some m) None
 choice_same n s m t u e f = rw (e, f)
 
-module _ (text table shelf : List ℕ) (n : ℕ) where
+module _ (text table shelf : List ℕ) where
   abbrev at : ℕ → Parameter
-  at = shelved text table shelf n
+  at = shelved text table shelf
 
   abbrev place : Parameter → ℕ
-  place = looked_for text table shelf n
+  place = looked_for text table shelf
 
-  abbrev lands : Parameter → ℕ
-  lands = landing text table shelf n
+  abbrev lands : Parameter → Option ℕ
+  lands = landing text table shelf
 
   module _ (p : Parameter) where
     abbrev there : ℕ → Bool
     there s = same_parameter (at s) p
 
-    pub lands_past : {s : ℕ} → s ≡ place p → n ≤ s → shelf_size ≡ lands p
-    lands_past {s} e h = rw (← e, le-ltb s n h)
+    pub lands_past : {s : ℕ} → s ≡ place p → length shelf ≤ s → None ≡ lands p
+    lands_past {s} e h = rw (← e, le-ltb s (length shelf) h)
 
-    pub lands_there : {s : ℕ} → s ≡ place p → s < n → there s ≡ true → s ≡ lands p
-    lands_there {s} e h t = chosen n there s (place p) e h t
+    pub lands_there : {s : ℕ} → s ≡ place p → s < length shelf → there s ≡ true → Some s ≡ lands p
+    lands_there {s} e h t = chosen (length shelf) there s (place p) e h t
 
-    pub lands_not : {s : ℕ} → s ≡ place p → s < n → there s ≡ false → shelf_size ≡ lands p
-    lands_not {s} e h t = not_chosen n there s (place p) e h t
+    pub lands_not : {s : ℕ} → s ≡ place p → s < length shelf → there s ≡ false → None ≡ lands p
+    lands_not {s} e h t = not_chosen (length shelf) there s (place p) e h t
 
-    landed_there : lands p < shelf_size → (lands p ≡ place p) × (there (place p) ≡ true)
-    landed_there h = was_chosen n there (place p) h
+    landed_there : {j : ℕ} → lands p ≡ Some j → (place p ≡ j) × (there (place p) ≡ true)
+    landed_there {j} h = was_chosen (length shelf) there (place p) j h
 
   place_same : (x y : Parameter) → same_parameter x y ≡ true → place x ≡ place y
-  place_same x y e = halve_same (λ j. precedes (at j) x) (λ j. precedes (at j) y) (λ j. same_place (at j) x y e) n 0 n
+  place_same x y e = halve_same (λ j. precedes (at j) x) (λ j. precedes (at j) y) (λ j. same_place (at j) x y e) (length shelf) 0 (length shelf)
 
   -- parameters that are the same land on the same place
   pub lands_same : (x y : Parameter) → same_parameter x y ≡ true → lands x ≡ lands y
   lands_same x y e =
       let s = place_same x y e in
-      choice_same n (place x) (place y) (there x (place x)) (there y (place y)) s
+      choice_same (length shelf) (place x) (place y) (there x (place x)) (there y (place y)) s
       (ap (there x) s ∙ as_same of_parameter x y e (at (place y)))
 
   -- and only those do
-  pub lands_apart : (x y : Parameter) → lands x < shelf_size → lands x ≡ lands y → same_parameter x y ≡ true
-  lands_apart x y h e =
-      let p = landed_there x h in
-      let k : lands y < shelf_size = rw (← e) h in
-      let q = landed_there y k in
-      let s : place x ≡ place y = sym p.0 ∙ (e ∙ q.0) in
-      of_parameter.joined x (at (place x)) y (of_parameter.turned (at (place x)) x p.1) (ap (λ (m : ℕ). there y m) s ∙ q.1)
+  pub lands_apart : (x y : Parameter) (j : ℕ) → lands x ≡ Some j → lands y ≡ Some j → same_parameter x y ≡ true
+  lands_apart x y j e f =
+      let p = landed_there x e in
+      let q = landed_there y f in
+      of_parameter.joined x (at (place x)) y (of_parameter.turned (at (place x)) x p.1) (ap (λ (m : ℕ). there y m) (p.0 ∙ sym q.0) ∙ q.1)
 
 -- ---- a row put on it
 
@@ -140,17 +141,18 @@ stored l i a j h = go (eqb i j) refl
     go true e = rw (← eqb-true i j e) (get_or-set_same l i a 0 h)
     go false e = get_or-set_other l i j a 0 (λ f. eqb-false i j e (sym f))
 
-pub stand_set : (rows n : ℕ) (shelf : List ℕ) (i a : ℕ) → i < length shelf → a < rows → Stand rows shelf n → Stand rows (set shelf i a) n
-stand_set rows n shelf i a h l s j k = rw (stored shelf i a j h) (go (eqb i j))
+-- a row put in a place: those from there on move up by one
+pub stand_insert : (rows : ℕ) (shelf : List ℕ) (i row : ℕ) → i ≤ length shelf → row < rows → Stand rows shelf → Stand rows (insert shelf i row)
+stand_insert rows shelf i row h l s j k = go (ltb j i) refl (eqb i j) refl
   where
-    go : (t : Bool) → pick t a (get_or shelf j 0) < rows
-    go true = l
-    go false = s j k
+    longer : length (insert shelf i row) ≡ length shelf + 1
+    longer = length-insert shelf i row h
 
--- a row in the last place
-pub stand_last : (rows n : ℕ) (shelf : List ℕ) (a : ℕ) → n < length shelf → a < rows → Stand rows shelf n → Stand rows (set shelf n a) (n + 1)
-stand_last rows n shelf a h l s j k = rw (stored shelf n a j h) (go (eqb n j) refl)
-  where
-    go : (t : Bool) → eqb n j ≡ t → pick t a (get_or shelf j 0) < rows
-    go true e = l
-    go false e = s j (omega (arith, k, eqb-false n j e))
+    go : (t : Bool) → ltb j i ≡ t → (u : Bool) → eqb i j ≡ u → get_or (insert shelf i row) j 0 < rows
+    go true e u f = let b : j < i = ltb-true j i e in rw (get_or-insert_below shelf i row 0 j b h) (s j (omega (arith, b, h)))
+    go false e true f = rw (← eqb-true i j f, get_or-insert_at shelf i row 0 h) l
+    go false e false f =
+        let b : i ≤ j = ltb-false j i e in
+        let n : i ≢ j = eqb-false i j f in
+        let m : j ≡ j - 1 + 1 = omega (arith, b, n) in
+        rw (m, get_or-insert_above shelf i row 0 (j - 1) (omega (arith, b, n)) h) (s (j - 1) (omega (arith, b, n, k, longer)))

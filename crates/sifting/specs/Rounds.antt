@@ -1,19 +1,31 @@
--- Serves inner contracts only. What one round over a shelf of n rows finds out about two runs of parameter rows.
+-- Serves inner contracts only. What one round over a shelf finds out about the two runs that it is for.
 -- Assumes nothing.
-use Rattle.std.specs.Prelude.{ℕ, List, []}
+use Rattle.std.specs.Prelude.{ℕ, List, [], Option}
+use Rattle.tables.specs.Trees.{Parameter}
 use Rattle.comparing.specs.Runs.{run_in}
+use Rattle.sifting.specs.declared.Shelf.{Shelf}
 use Rattle.sifting.specs.Shelves.{landing}
 use Rattle.sifting.specs.Tallies.{Balanced, Even}
 
-module _ (text table shelf : List ℕ) (n : ℕ) where
-  -- the tallies count the first run
-  abbrev pub Counted : List ℕ → ℕ → ℕ → Type 0
-  Counted tally a count = Balanced (landing text table shelf n) tally [] (run_in text table a count)
+-- the place on which a parameter lands, if it does
+abbrev pub lands : Shelf → Parameter → Option ℕ
+lands s = landing s.runs.text.now s.runs.parameters.now s.rows.items
 
-  -- the first rows of the second run are taken off them
-  abbrev pub Reduced : List ℕ → ℕ → ℕ → ℕ → ℕ → Type 0
-  Reduced tally a b count i = Balanced (landing text table shelf n) tally (run_in text table b i) (run_in text table a count)
+-- the first rows of either run
+abbrev pub one_run : Shelf → ℕ → List Parameter
+one_run s i = run_in s.runs.text.now s.runs.parameters.now s.runs.a i
 
-  -- as many of both runs land on each place
-  abbrev pub Level : ℕ → ℕ → ℕ → Type 0
-  Level a b count = Even (landing text table shelf n) (run_in text table a count) (run_in text table b count)
+abbrev pub other_run : Shelf → ℕ → List Parameter
+other_run s i = run_in s.runs.text.now s.runs.parameters.now s.runs.b i
+
+-- the tallies count the first rows of the first run
+abbrev pub Counted : Shelf → List ℕ → ℕ → Type 0
+Counted s tally i = Balanced (lands s) tally [] (one_run s i)
+
+-- the tallies of all the first run, and the first rows of the second are taken off them
+abbrev pub Reduced : Shelf → List ℕ → ℕ → Type 0
+Reduced s tally i = Balanced (lands s) tally (other_run s i) (one_run s s.runs.count)
+
+-- as many of both runs land on each place
+abbrev pub Level : Shelf → Type 0
+Level s = Even (lands s) (one_run s s.runs.count) (other_run s s.runs.count)

@@ -1,8 +1,7 @@
 -- Serves inner contracts only. A shelf: the numbers of some parameter rows, in order, and the place on it at which a parameter is looked for.
 -- Assumes nothing.
-use Rattle.std.specs.Prelude.{◌≡◌, ℕ, zero, suc, ◌+◌, ◌/◌, ◌≤◌, ◌<◌, Bool, ◌&&◌, List, length, get_or, ltb}
+use Rattle.std.specs.Prelude.{ℕ, zero, suc, ◌+◌, ◌/◌, ◌<◌, Bool, ◌&&◌, List, length, get_or, ltb, Option, Some, None}
 use Rattle.octets.specs.Choice.{pick}
-use Rattle.tables.specs.Rows.{parameter_size}
 use Rattle.tables.specs.Trees.{Parameter}
 use Rattle.comparing.specs.Pieces.{same_parameter}
 use Rattle.comparing.specs.Runs.{parameter_in}
@@ -12,17 +11,9 @@ use Rattle.sifting.specs.Orders.{precedes}
 abbrev pub shelf_size : ℕ
 shelf_size = 768
 
--- the first n on the shelf are numbers of rows, of which there are `rows`
-abbrev pub Stand : ℕ → List ℕ → ℕ → Type 0
-Stand rows shelf n = (j : ℕ) → j < n → get_or shelf j 0 < rows
-
--- a shelf with n rows of a table on it
-abbrev pub Stocked : List ℕ → List ℕ → ℕ → Type 0
-Stocked table shelf n = (n ≤ shelf_size) × (length shelf ≡ shelf_size) × Stand (length table / parameter_size) shelf n
-
--- after a row was put on it: whatever rows there are, it holds only such
-abbrev pub Moved : ℕ → List ℕ → List ℕ → ℕ → Type 0
-Moved row old new n = (rows : ℕ) → row < rows → Stand rows old n → Stand rows new (n + 1)
+-- what is on the shelf are numbers of rows, of which there are `rows`
+abbrev pub Stand : ℕ → List ℕ → Type 0
+Stand rows shelf = (j : ℕ) → j < length shelf → get_or shelf j 0 < rows
 
 -- the place between lo and hi that halving leads to: behind the middle where that is below what is looked for, and otherwise before it
 unfoldable pub halve : (ℕ → Bool) → ℕ → ℕ → ℕ → ℕ
@@ -30,15 +21,15 @@ halve below zero lo hi = lo
 halve below (suc fuel) lo hi =
     pick (ltb lo hi) (pick (below ((lo + hi) / 2)) (halve below fuel ((lo + hi) / 2 + 1) hi) (halve below fuel lo ((lo + hi) / 2))) lo
 
-module _ (text table shelf : List ℕ) (n : ℕ) where
+module _ (text table shelf : List ℕ) where
   -- the parameter in a place of the shelf
   abbrev pub shelved : ℕ → Parameter
   shelved j = parameter_in text table (get_or shelf j 0)
 
-  -- where a parameter is looked for
+  -- where a parameter is looked for: behind those on the shelf that stand before it
   abbrev pub looked_for : Parameter → ℕ
-  looked_for p = halve (λ j. precedes (shelved j) p) n 0 n
+  looked_for p = halve (λ j. precedes (shelved j) p) (length shelf) 0 (length shelf)
 
-  -- the place where one that is the same stands, if it stands where it is looked for; otherwise a number that is no place
-  abbrev pub landing : Parameter → ℕ
-  landing p = pick (ltb (looked_for p) n && same_parameter (shelved (looked_for p)) p) (looked_for p) shelf_size
+  -- the place where one that is the same stands, if it stands where it is looked for
+  abbrev pub landing : Parameter → Option ℕ
+  landing p = pick (ltb (looked_for p) (length shelf) && same_parameter (shelved (looked_for p)) p) (Some (looked_for p)) None

@@ -1,364 +1,267 @@
 // Whether two runs of parameter rows hold the same ones, in any order: in rounds over a shelf of rows in order, so that a feed of many rows takes no minutes.
 #![tactic(auto)]
 
-ghost use Rattle.std.specs.Prelude.{◌≡◌, true, false, ◌+◌, ◌/◌, ◌≤◌, ◌<◌, length};
+ghost use Rattle.std.specs.Prelude.{◌≡◌, true, false, ◌+◌, ◌/◌, ◌≤◌, ◌<◌, length, IfSome};
 ghost use Rattle.octets.specs.Views.{viewed};
 ghost use Rattle.tables.specs.Rows.{parameter_size};
-ghost use Rattle.tables.specs.Trees.{parameter_of};
+ghost use Rattle.tables.specs.Trees.{parameter_of, value_of};
 ghost use Rattle.comparing.specs.Runs.{parameter_in, same_runs, SettledTo};
-ghost use Rattle.sifting.specs.Orders.{letter_of, order_by, precedes};
-ghost use Rattle.sifting.specs.Shelves.{shelf_size, Stocked, Moved, looked_for, landing};
+ghost use Rattle.sifting.specs.Orders.{key_order, value_order, parameter_order, precedes};
+ghost use Rattle.sifting.specs.Shelves.{shelf_size, Stand, looked_for, landing};
 ghost use Rattle.sifting.specs.Tallies.{Empty, Left};
-ghost use Rattle.sifting.specs.Rounds.{Counted, Reduced, Level};
 
+use arrayvec::ArrayVec;
+use comparing::Runs;
+use std::cmp::Ordering;
 use tables::ParameterRow;
 
-// How many rows a shelf holds; as the place of a row it says that the row has none.
+// How many rows a shelf holds.
 const SHELF: usize = 768;
 // Runs of so few rows are compared row by row.
 const FEW: usize = 64;
 
-const SMALLER: u32 = 0;
-
-const EQUAL: u32 = 1;
-
-const GREATER: u32 = 2;
-
-// A byte as it is compared.
-fn letter(b: u8, caseless: bool) -> u8
-    ensures { result ≡ letter_of caseless b }
+// Where one key stands beside another, in any case of their letters: the first that differ decide.
+fn key_order(a: &[u8], b: &[u8]) -> Ordering
+    ensures { result ≡ key_order a.now b.now }
 {
-    if caseless {
-        return octets::lower(b);
-    }
-    b
+    a.iter()
+        .map(|x| octets::lower(*x))
+        .cmp(b.iter().map(|x| octets::lower(*x)))
 }
 
-// Where the one part stands beside the other: the first letters that differ decide.
-fn order_of(a: &[u8], b: &[u8], caseless: bool) -> u32
-    ensures { result ≡ order_by caseless a.now b.now }
+// The same of the values of two parameters: an absent one stands before one that is present.
+fn value_order(text: &[u8], p: ParameterRow, q: ParameterRow) -> Ordering
+    ensures { result ≡ value_order (value_of text.now p) (value_of text.now q) }
 {
-    let mut i: usize = 0;
-    while i < a.len() {
-        if b.len() <= i {
-            return GREATER;
-        }
-        let x = letter(a[i], caseless);
-        let y = letter(b[i], caseless);
-        if x < y {
-            return SMALLER;
-        }
-        if y < x {
-            return GREATER;
-        }
-        i += 1;
+    match (p.present, q.present) {
+        (0, 0) => Ordering::Equal,
+        (0, _) => Ordering::Less,
+        (_, 0) => Ordering::Greater,
+        _ => part(text, p.value_start, p.value_len).cmp(part(text, q.value_start, q.value_len)),
     }
-    if i < b.len() {
-        return SMALLER;
-    }
-    EQUAL
 }
 
-// The same of two parts of a text.
-fn part_order(text: &[u8], p: octets::Span, q: octets::Span, caseless: bool) -> u32
-    ensures { result ≡ order_by caseless (viewed text.now p.start p.len) (viewed text.now q.start q.len) }
+// A part of the text as a row has it.
+fn part(text: &[u8], start: u32, len: u32) -> &[u8]
+    ensures { result.now ≡ viewed text.now start len }
 {
-    order_of(
-        octets::view(text, p.start, p.len),
-        octets::view(text, q.start, q.len),
-        caseless,
-    )
+    octets::view(text, start as usize, len as usize)
 }
 
-// Whether the one parameter stands before the other in the order of a shelf.
-fn comes_before(text: &[u8], p: ParameterRow, q: ParameterRow) -> bool
-    ensures { result ≡ precedes (parameter_of text.now p) (parameter_of text.now q) }
+// Where one parameter stands beside another in the order of a shelf: their keys decide, and then their values.
+fn parameter_order(text: &[u8], p: ParameterRow, q: ParameterRow) -> Ordering
+    ensures { result ≡ parameter_order (parameter_of text.now p) (parameter_of text.now q) }
 {
-    let keys = part_order(
-        text,
-        comparing::span(p.key_start, p.key_len),
-        comparing::span(q.key_start, q.key_len),
-        true,
-    );
-    if keys != EQUAL {
-        return keys == SMALLER;
-    }
-    if p.present == 0 {
-        return q.present != 0;
-    }
-    if q.present == 0 {
-        return false;
-    }
-    part_order(
-        text,
-        comparing::span(p.value_start, p.value_len),
-        comparing::span(q.value_start, q.value_len),
-        false,
-    ) == SMALLER
+    let one = part(text, p.key_start, p.key_len);
+    let other = part(text, q.key_start, q.key_len);
+    key_order(one, other).then_with(|| value_order(text, p, q))
 }
 
-// The same of the parameters of two rows.
+// Whether the parameter of one row stands before that of another.
 fn row_before(text: &[u8], parameters: &[u32], p: usize, q: usize) -> bool
     requires { (p < length parameters.now / parameter_size) × (q < length parameters.now / parameter_size) }
     ensures { result ≡ precedes (parameter_in text.now parameters.now p) (parameter_in text.now parameters.now q) }
 {
-    comes_before(
+    parameter_order(
         text,
         tables::parameter_at(parameters, p),
         tables::parameter_at(parameters, q),
     )
+    .is_lt()
 }
 
-// Where a row is looked for among the n on the shelf: behind those that stand before it.
-fn place_of(text: &[u8], parameters: &[u32], shelf: &[usize], n: usize, row: usize) -> usize
-    requires { (row < length parameters.now / parameter_size) × Stocked parameters.now shelf.now n }
-    ensures within { result ≤ n }
-    ensures value { result ≡ looked_for text.now parameters.now shelf.now n (parameter_in text.now parameters.now row) }
-{
-    let mut lo: usize = 0;
-    let mut hi = n;
-    while lo < hi {
-        let middle = (lo + hi) / 2;
-        if row_before(text, parameters, shelf[middle], row) {
-            lo = middle + 1;
-        } else {
-            hi = middle;
+// Rows of the first of two runs, each of another parameter, in their order.
+#[derive(Drop)]
+struct Shelf<'a> {
+    runs: Runs<'a>,
+    rows: ArrayVec<usize, SHELF>,
+    ghost stocked: { Stand (length runs.parameters.now / parameter_size) rows.items },
+}
+
+impl<'a> Shelf<'a> {
+    ghost use Rattle.sifting.specs.Rounds.{lands, Counted, Reduced, Level};
+
+    fn new(runs: &Runs<'a>) -> Self
+        ensures { result.runs ≡ runs.now }
+    {
+        Shelf {
+            runs: *runs,
+            rows: ArrayVec::new(),
         }
     }
-    lo
-}
 
-// The place where a row that is the same stands on the shelf, or SHELF if none stands where it is looked for.
-fn landing_of(text: &[u8], parameters: &[u32], shelf: &[usize], n: usize, row: usize) -> usize
-    requires { (row < length parameters.now / parameter_size) × Stocked parameters.now shelf.now n }
-    ensures { result ≡ landing text.now parameters.now shelf.now n (parameter_in text.now parameters.now row) }
-{
-    let place = place_of(text, parameters, shelf, n, row);
-    if n <= place {
-        return SHELF;
-    }
-    if comparing::same_rows(text, parameters, shelf[place], row) {
-        return place;
-    }
-    SHELF
-}
-
-// Puts a row in a place of the shelf; those from there on move up by one. The last place holds a row at once, so each holds one all the time.
-fn insert(shelf: &mut [usize], n: usize, place: usize, row: usize)
-    requires { (n < length shelf.old) × (place ≤ n) }
-    ensures { Moved row shelf.old shelf.new n }
-{
-    shelf[n] = row;
-    let mut k = n;
-    while place < k {
-        shelf[k] = shelf[k - 1];
-        k -= 1;
-    }
-    shelf[place] = row;
-}
-
-// Puts a row on the shelf, if none that is the same is there, and says how many rows are there then.
-fn shelve(text: &[u8], parameters: &[u32], shelf: &mut [usize], n: usize, row: usize) -> usize
-    requires { (row < length parameters.now / parameter_size) × (n < shelf_size) × Stocked parameters.now shelf.old n }
-    ensures { (result ≤ n + 1) × Stocked parameters.now shelf.new result }
-{
-    if landing_of(text, parameters, shelf, n, row) < SHELF {
-        return n;
-    }
-    let place = place_of(text, parameters, shelf, n, row);
-    insert(shelf, n, place, row);
-    n + 1
-}
-
-// What a round is about: so many rows are on the shelf, and all rows of the first run before `next` had a chance to be.
-#[derive(Clone, Copy)]
-struct Gathered {
-    used: usize,
-    next: usize,
-}
-
-// Fills the shelf with the rows of a run from row `from` of it on, until it is full or the run ends.
-fn gather(
-    text: &[u8],
-    parameters: &[u32],
-    shelf: &mut [usize],
-    first: usize,
-    count: usize,
-    from: usize,
-) -> Gathered
-    requires { (first + count ≤ length parameters.now / parameter_size) × (from < count) × (length shelf.old ≡ shelf_size) }
-    ensures { (from < result.next) × (result.next ≤ count) × Stocked parameters.now shelf.new result.used }
-{
-    let mut n: usize = 0;
-    let mut k = from;
-    while k < count {
-        if SHELF <= n {
-            return Gathered { used: n, next: k };
+    // Where a row is looked for: behind those that stand before it.
+    fn place_of(&self, row: usize) -> usize
+        requires { row < length self.now.runs.parameters.now / parameter_size }
+        ensures within { result ≤ length self.now.rows.items }
+        ensures value { result ≡ looked_for self.now.runs.text.now self.now.runs.parameters.now self.now.rows.items (parameter_in self.now.runs.text.now self.now.runs.parameters.now row) }
+    {
+        let rows = self.rows.as_slice();
+        let mut lo: usize = 0;
+        let mut hi = rows.len();
+        while lo < hi {
+            let middle = (lo + hi) / 2;
+            if row_before(self.runs.text, self.runs.parameters, rows[middle], row) {
+                lo = middle + 1;
+            } else {
+                hi = middle;
+            }
         }
-        n = shelve(text, parameters, shelf, n, first + k);
-        k += 1;
+        lo
     }
-    Gathered { used: n, next: k }
-}
 
-// Counts each row of a run for the place on which it lands.
-fn count_up(
-    text: &[u8],
-    parameters: &[u32],
-    shelf: &[usize],
-    n: usize,
-    tally: &mut [usize],
-    first: usize,
-    count: usize,
-)
-    requires count_in_bounds { (first + count ≤ length parameters.now / parameter_size) × Stocked parameters.now shelf.now n }
-    requires tally_empty { (length tally.old ≡ shelf_size) × Empty tally.old }
-    ensures { Counted text.now parameters.now shelf.now n tally.new first count }
-{
-    let mut i: usize = 0;
-    while i < count {
-        let place = landing_of(text, parameters, shelf, n, first + i);
-        if place < SHELF {
-            tally[place] += 1;
+    // The place where a row that is the same stands, if it stands where it is looked for.
+    fn landing_of(&self, row: usize) -> Option<usize>
+        requires { row < length self.now.runs.parameters.now / parameter_size }
+        ensures value { result ≡ lands self.now (parameter_in self.now.runs.text.now self.now.runs.parameters.now row) }
+        ensures on_shelf { IfSome result (λ place. place < shelf_size) }
+    {
+        let rows = self.rows.as_slice();
+        let place = self.place_of(row);
+        if rows.len() <= place {
+            return None;
         }
-        i += 1;
+        if comparing::same_rows(self.runs.text, self.runs.parameters, rows[place], row) {
+            return Some(place);
+        }
+        None
     }
-}
 
-// Takes the rows of the second run off the tallies of the first, unless more of them land on a place than of the first.
-fn count_down(
-    text: &[u8],
-    parameters: &[u32],
-    shelf: &[usize],
-    n: usize,
-    tally: &mut [usize],
-    a: usize,
-    b: usize,
-    count: usize,
-) -> bool
-    requires count_in_bounds { (b + count ≤ length parameters.now / parameter_size) × Stocked parameters.now shelf.now n × (length tally.old ≡ shelf_size) }
-    requires counted { Counted text.now parameters.now shelf.now n tally.old a count }
-    ensures unlike { result ≡ false → same_runs text.now parameters.now a b count ≡ false }
-    ensures reduced { result ≡ true → Reduced text.now parameters.now shelf.now n tally.new a b count count }
-{
-    let mut i: usize = 0;
-    while i < count {
-        let place = landing_of(text, parameters, shelf, n, b + i);
-        if place < SHELF {
-            if tally[place] == 0 {
+    // Puts row k of the first run on the shelf, which has room, if none that is the same is there.
+    fn shelve(&mut self, k: usize)
+        requires in_run { k < self.old.runs.count }
+        requires room { length self.old.rows.items < shelf_size }
+        ensures { self.new.runs ≡ self.old.runs }
+    {
+        let runs = &self.runs;
+        let row = runs.a + k;
+        if self.landing_of(row).is_none() {
+            let place = self.place_of(row);
+            self.rows.insert(place, row);
+        }
+    }
+
+    // Fills the shelf with rows of the first run from row `from` on, until it is full or the run ends, and says which row is next.
+    fn gather(&mut self, from: usize) -> usize
+        requires { from < self.old.runs.count }
+        ensures next { (from < result) × (result ≤ self.new.runs.count) }
+        ensures runs { self.new.runs ≡ self.old.runs }
+    {
+        self.rows.clear();
+        for k in from..self.runs.count {
+            if self.rows.is_full() {
+                return k;
+            }
+            self.shelve(k);
+        }
+        self.runs.count
+    }
+
+    // Counts each row of the first run for the place on which it lands.
+    fn count_up(&self, tally: &mut [usize; SHELF])
+        requires { Empty tally.old }
+        ensures { Counted self.now tally.new self.now.runs.count }
+    {
+        let runs = &self.runs;
+        for i in 0..runs.count {
+            if let Some(place) = self.landing_of(runs.a + i) {
+                tally[place] += 1;
+            }
+        }
+    }
+
+    // Takes the rows of the second run off the tallies of the first, unless more of them land on a place than of the first.
+    fn count_down(&self, tally: &mut [usize; SHELF]) -> bool
+        requires { Counted self.now tally.old self.now.runs.count }
+        ensures unlike { result ≡ false → same_runs self.now.runs.text.now self.now.runs.parameters.now self.now.runs.a self.now.runs.b self.now.runs.count ≡ false }
+        ensures reduced { result ≡ true → Reduced self.now tally.new self.now.runs.count }
+    {
+        let runs = &self.runs;
+        for i in 0..runs.count {
+            if let Some(place) = self.landing_of(runs.b + i) {
+                if tally[place] == 0 {
+                    return false;
+                }
+                tally[place] -= 1;
+            }
+        }
+        true
+    }
+
+    // Whether as many rows of the first run as of the second land on each place.
+    fn are_even(&self) -> bool
+        ensures unlike { result ≡ false → same_runs self.now.runs.text.now self.now.runs.parameters.now self.now.runs.a self.now.runs.b self.now.runs.count ≡ false }
+        ensures level { result ≡ true → Level self.now }
+    {
+        let mut tally = [0usize; SHELF];
+        self.count_up(&mut tally);
+        self.count_down(&mut tally) && is_empty(&tally)
+    }
+
+    // Whether no parameter stands oftener among the rows of the first run up to `next` than in the second, where none does among those up to `from`. A
+    // row that lands stands in both as often. One that does not is asked about by itself: that is slow, but no row comes to it that was put on the shelf.
+    fn settle(&self, from: usize, next: usize) -> bool
+        requires in_run { (from ≤ next) × (next ≤ self.now.runs.count) }
+        requires level { Level self.now }
+        requires settled_to { SettledTo self.now.runs.text.now self.now.runs.parameters.now self.now.runs.a self.now.runs.b self.now.runs.count from }
+        ensures unlike { result ≡ false → same_runs self.now.runs.text.now self.now.runs.parameters.now self.now.runs.a self.now.runs.b self.now.runs.count ≡ false }
+        ensures settled_on { result ≡ true → SettledTo self.now.runs.text.now self.now.runs.parameters.now self.now.runs.a self.now.runs.b self.now.runs.count next }
+    {
+        let runs = &self.runs;
+        for k in from..next {
+            if self.landing_of(runs.a + k).is_none() && !runs.is_settled(k) {
                 return false;
             }
-            tally[place] -= 1;
         }
-        i += 1;
+        true
     }
-    true
 }
 
 // Whether no tally is left over.
-fn is_empty(tally: &[usize]) -> bool
-    requires { length tally.now ≡ shelf_size }
+fn is_empty(tally: &[usize; SHELF]) -> bool
     ensures empty { result ≡ true → Empty tally.now }
     ensures left { result ≡ false → Left tally.now }
 {
-    let mut i: usize = 0;
-    while i < SHELF {
-        if tally[i] != 0 {
-            return false;
-        }
-        i += 1;
-    }
-    true
+    tally.iter().all(|left| *left == 0)
 }
 
-// Whether as many rows of the first run as of the second land on each place; the tallies are empty before, and again behind if so.
-fn are_even(
-    text: &[u8],
-    parameters: &[u32],
-    shelf: &[usize],
-    n: usize,
-    tally: &mut [usize],
-    a: usize,
-    b: usize,
-    count: usize,
-) -> bool
-    requires count_in_bounds { (a + count ≤ length parameters.now / parameter_size) × (b + count ≤ length parameters.now / parameter_size) × Stocked parameters.now shelf.now n }
-    requires tally_empty { (length tally.old ≡ shelf_size) × Empty tally.old }
-    ensures unlike { result ≡ false → same_runs text.now parameters.now a b count ≡ false }
-    ensures empty { result ≡ true → Empty tally.new × Level text.now parameters.now shelf.now n a b count }
+// Whether both runs hold the same parameters, in rounds: each is about as many rows of the first run as the shelf holds.
+fn in_rounds(runs: &Runs) -> bool
+    ensures { result ≡ same_runs runs.now.text.now runs.now.parameters.now runs.now.a runs.now.b runs.now.count }
 {
-    count_up(text, parameters, shelf, n, tally, a, count);
-    if !count_down(text, parameters, shelf, n, tally, a, b, count) {
-        return false;
-    }
-    is_empty(tally)
-}
-
-// Whether no parameter stands oftener among the rows of the first run up to `next` than in the second, where none does among those up to `from`. A row
-// that lands stands in both as often. One that does not is asked about by itself: that is slow, but no row comes to it that was put on the shelf.
-fn settle(
-    text: &[u8],
-    parameters: &[u32],
-    shelf: &[usize],
-    n: usize,
-    a: usize,
-    b: usize,
-    count: usize,
-    from: usize,
-    next: usize,
-) -> bool
-    requires count_in_bounds { (a + count ≤ length parameters.now / parameter_size) × (b + count ≤ length parameters.now / parameter_size) }
-    requires next_in_bounds { (from ≤ next) × (next ≤ count) × Stocked parameters.now shelf.now n }
-    requires level { Level text.now parameters.now shelf.now n a b count }
-    requires settled_to { SettledTo text.now parameters.now a b count from }
-    ensures unlike { result ≡ false → same_runs text.now parameters.now a b count ≡ false }
-    ensures settled_on { result ≡ true → SettledTo text.now parameters.now a b count next }
-{
-    let mut k = from;
-    while k < next {
-        if SHELF <= landing_of(text, parameters, shelf, n, a + k) {
-            if !comparing::is_settled(text, parameters, a, b, count, k) {
-                return false;
-            }
-        }
-        k += 1;
-    }
-    true
-}
-
-// Whether two runs of equally many rows hold the same parameters, in rounds: each is about as many rows of the first run as the shelf holds.
-fn in_rounds(text: &[u8], parameters: &[u32], a: usize, b: usize, count: usize) -> bool
-    requires { (a + count ≤ length parameters.now / parameter_size) × (b + count ≤ length parameters.now / parameter_size) }
-    ensures { result ≡ same_runs text.now parameters.now a b count }
-{
-    let mut shelf = [0usize; SHELF];
-    let mut tally = [0usize; SHELF];
+    let mut shelf = Shelf::new(runs);
     let mut from: usize = 0;
-    while from < count {
-        let g = gather(text, parameters, &mut shelf, a, count, from);
-        if !are_even(text, parameters, &shelf, g.used, &mut tally, a, b, count) {
+    while from < runs.count {
+        let next = shelf.gather(from);
+        if !shelf.are_even() || !shelf.settle(from, next) {
             return false;
         }
-        if !settle(text, parameters, &shelf, g.used, a, b, count, from, g.next) {
-            return false;
-        }
-        from = g.next;
+        from = next;
     }
     true
 }
 
-// Whether two runs of equally many rows hold the same parameters, in linear time for rows in the same order: only what lies between a front and an
-// end that agree is counted.
-pub fn same_runs(text: &[u8], parameters: &[u32], a: usize, b: usize, count: usize) -> bool
-    requires { (a + count ≤ length parameters.now / parameter_size) × (b + count ≤ length parameters.now / parameter_size) }
-    ensures { result ≡ same_runs text.now parameters.now a b count }
+// Whether two runs hold the same parameters, in linear time for rows in the same order: only what lies between a front and an end that agree is counted.
+pub fn same_runs(runs: &Runs) -> bool
+    ensures { result ≡ same_runs runs.now.text.now runs.now.parameters.now runs.now.a runs.now.b runs.now.count }
 {
-    let front = comparing::agreeing_front(text, parameters, a, b, count);
-    let one = a + front;
-    let other = b + front;
-    let left = comparing::without_agreeing_back(text, parameters, one, other, count - front);
-    if left <= FEW {
-        return comparing::all_settled(text, parameters, one, other, left);
+    let front = runs.agreeing_front();
+    let behind = Runs {
+        text: runs.text,
+        parameters: runs.parameters,
+        a: runs.a + front,
+        b: runs.b + front,
+        count: runs.count - front,
+    };
+    let between = Runs {
+        text: runs.text,
+        parameters: runs.parameters,
+        a: behind.a,
+        b: behind.b,
+        count: behind.without_agreeing_back(),
+    };
+    if between.count <= FEW {
+        return between.all_settled();
     }
-    in_rounds(text, parameters, one, other, left)
+    in_rounds(&between)
 }
