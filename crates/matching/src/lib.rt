@@ -14,8 +14,9 @@ ghost use Rattle.matching.specs.Held.{property_in, left};
 
 mod properties;
 
+use comparing::Runs;
 use properties::Properties;
-use tables::{ComponentRow, PropertyRow, Tables};
+use tables::{ComponentRow, PropertyRow, Row, Tables};
 use walking::Window;
 
 // How the values of two properties are compared.
@@ -105,7 +106,17 @@ pub fn same_parameters(tables: &Tables, a: Held, b: Held) -> bool
     if walking::run_of(parameters, b.first, b.property) != count {
         return false;
     }
-    count == 0 || sifting::same_runs(tables.text, parameters, a.first, b.first, count)
+    if count == 0 {
+        return true;
+    }
+    let runs = Runs {
+        text: tables.text,
+        parameters,
+        a: a.first,
+        b: b.first,
+        count,
+    };
+    sifting::same_runs(&runs)
 }
 
 // Whether two properties are the same: key, value and parameters.
@@ -115,8 +126,8 @@ pub fn same_property<V: Values>(tables: &Tables, a: Held, b: Held) -> bool
     ensures { result
         ≡ same_property_by V.test same_parameters (property_in (held tables.now) a) (property_in (held tables.now) b) }
 {
-    let p = tables::property_at(tables.properties, a.property);
-    let q = tables::property_at(tables.properties, b.property);
+    let p = PropertyRow::at(tables.properties, a.property);
+    let q = PropertyRow::at(tables.properties, b.property);
     same_key_and_value::<V>(tables.text, p, q) && same_parameters(tables, a, b)
 }
 

@@ -11,7 +11,7 @@ ghost use Rattle.twins.specs.Answers.{twin_rows};
 ghost use Rattle.neighbours.specs.Counts.{repeats, children_in, told, neighbours_answer};
 
 use matching::Exact;
-use tables::Tables;
+use tables::{ComponentRow, Row, Tables};
 use twins::Spot;
 use walking::{Cursor, Walk};
 
@@ -115,7 +115,7 @@ fn count(tables: &Tables, parent: usize) -> Result<usize, usize>
     ensures { told result ≡ neighbours_answer (held tables.now) parent }
 {
     let checked = checking::check(tables)?;
-    if tables::component_rows(tables.components) <= parent {
+    if ComponentRow::count(tables.components) <= parent {
         return Err(parent);
     }
     Ok(count_children(&Walk::new(&checked), parent))

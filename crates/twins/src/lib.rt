@@ -14,7 +14,7 @@ ghost use Rattle.twins.specs.Answers.{told, rows_alike_by, compared_by, twins_an
 ghost use Rattle.twins.specs.Matched.{at_row, start_at, spot_in, Headed, Matched};
 
 use matching::{AsText, Exact, Side, Values};
-use tables::Tables;
+use tables::{ComponentRow, PropertyRow, Row, Tables};
 use walking::{Cursor, Walk, Window};
 
 // The answer, the place, and 1 for twins.
@@ -104,8 +104,8 @@ fn same_head<V: Values>(walk: &Walk, first: Spot, second: Spot) -> Option<(Spot,
     ensures { Headed V.test (held walk.now.tables) first.row second.row result }
 {
     let tables = &walk.tables;
-    let one = tables::component_at(tables.components, first.row);
-    let other = tables::component_at(tables.components, second.row);
+    let one = ComponentRow::at(tables.components, first.row);
+    let other = ComponentRow::at(tables.components, second.row);
     if !matching::same_name(tables.text, one, other) {
         return None;
     }
@@ -147,8 +147,8 @@ fn same_component<V: Values>(
 fn is_own(properties: &[u32], property: usize, row: usize) -> bool
     ensures { result ≡ stands property_size property_at (owned_by row) properties.now property }
 {
-    property < tables::property_rows(properties)
-        && tables::owner_at(properties, property) as usize == row
+    property < PropertyRow::count(properties)
+        && PropertyRow::at(properties, property).owner as usize == row
 }
 
 // Whether the first properties of two components agree in key and value: it tells most of them apart at once. A property behind those of all earlier
@@ -170,8 +170,8 @@ pub fn same_front<V: Values>(tables: &Tables, first: Spot, second: Spot) -> bool
     if !is_own(properties, b, second.row) {
         return true;
     }
-    let one = tables::property_at(properties, a);
-    let other = tables::property_at(properties, b);
+    let one = PropertyRow::at(properties, a);
+    let other = PropertyRow::at(properties, b);
     matching::same_key_and_value::<V>(tables.text, one, other)
 }
 
@@ -192,7 +192,7 @@ fn compare<V: Values>(tables: &Tables, first: usize, second: usize) -> Result<bo
     ensures { told result ≡ compared_by V.test (held tables.now) first second }
 {
     let checked = checking::check(tables)?;
-    let rows = tables::component_rows(tables.components);
+    let rows = ComponentRow::count(tables.components);
     if rows <= first {
         return Err(first);
     }

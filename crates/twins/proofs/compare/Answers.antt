@@ -14,30 +14,30 @@ returns-in_err-checked g c =
 pub returns-then-rows-first : goal.returns-then-rows-first
 returns-then-rows-first g c =
     let t = c.args.tables.now in
-    let rows = counted t.components.now c.component_rows-rows.ensures in
+    let rows = counted t.components.now c.count-rows.ensures in
     sym (no_first g.V.Values.test (held t) c.args.first c.args.second (sound c.in_ok-checked.checked c.in_ok-checked.ensures) (omega (arith, rows, c.if-rows-first.true)))
 
 pub returns-then-rows-second : goal.returns-then-rows-second
 returns-then-rows-second g c =
     let t = c.args.tables.now in
-    let rows = counted t.components.now c.component_rows-rows.ensures in
+    let rows = counted t.components.now c.count-rows.ensures in
     sym (no_second g.V.Values.test (held t) c.args.first c.args.second (sound c.in_ok-checked.checked c.in_ok-checked.ensures)
     (omega (arith, rows, c.if-rows-first.false)) (omega (arith, rows, c.if-rows-second.true)))
 
 pub same_trees-requires-clause-first_arrived : goal.same_trees-requires-clause-first_arrived
 same_trees-requires-clause-first_arrived g c =
-    let rows = counted c.args.tables.now.components.now c.component_rows-rows.ensures in
+    let rows = counted c.args.tables.now.components.now c.count-rows.ensures in
     rw (c.with_order-walk.ensures, c.new.ensures.0, c.in_ok-checked.ensures, c.start.ensures) (arrived (held c.args.tables.now) c.args.first (omega (arith, rows, c.if-rows-first.false)))
 
 pub same_trees-requires-clause-second_arrived : goal.same_trees-requires-clause-second_arrived
 same_trees-requires-clause-second_arrived g c =
-    let rows = counted c.args.tables.now.components.now c.component_rows-rows.ensures in
+    let rows = counted c.args.tables.now.components.now c.count-rows.ensures in
     rw (c.with_order-walk.ensures, c.new.ensures.0, c.in_ok-checked.ensures, c.start-2.ensures) (arrived (held c.args.tables.now) c.args.second (omega (arith, rows, c.if-rows-second.false)))
 
 pub returns : goal.returns
 returns g c =
     let t = c.args.tables.now in
-    let rows = counted t.components.now c.component_rows-rows.ensures in
+    let rows = counted t.components.now c.count-rows.ensures in
     rw (c.same_trees.ensures, c.with_order-walk.ensures, c.new.ensures.0, c.in_ok-checked.ensures, c.start.ensures, c.start-2.ensures)
     (sym (told g.V.Values.test (held t) c.args.first c.args.second (sound c.in_ok-checked.checked c.in_ok-checked.ensures)
     (omega (arith, rows, c.if-rows-first.false)) (omega (arith, rows, c.if-rows-second.false))))
