@@ -1,13 +1,13 @@
 // Whether two runs of parameter rows hold the same ones, in any order: in rounds over a shelf of rows in order, so that a feed of many rows takes no minutes.
 #![tactic(auto)]
 
-ghost use Rattle.std.specs.Prelude.{◌≡◌, true, false, ◌+◌, ◌/◌, ◌≤◌, ◌<◌, length, IfSome};
+ghost use Rattle.std.specs.Prelude.{◌≡◌, true, false, ◌/◌, ◌≤◌, ◌<◌, length, IfSome};
 ghost use Rattle.octets.specs.Views.{viewed};
 ghost use Rattle.tables.specs.Rows.{parameter_size};
 ghost use Rattle.tables.specs.Trees.{parameter_of, value_of};
-ghost use Rattle.comparing.specs.Runs.{parameter_in, same_runs, SettledTo};
+ghost use Rattle.comparing.specs.Runs.{parameter_in, same_runs};
 ghost use Rattle.sifting.specs.Orders.{key_order, value_order, parameter_order, precedes};
-ghost use Rattle.sifting.specs.Shelves.{shelf_size, Stand, looked_for, landing};
+ghost use Rattle.sifting.specs.Shelves.{shelf_size, Stand};
 ghost use Rattle.sifting.specs.Tallies.{Empty, Left};
 
 use arrayvec::ArrayVec;
@@ -20,13 +20,26 @@ const SHELF: usize = 768;
 // Runs of so few rows are compared row by row.
 const FEW: usize = 64;
 
-// Where one key stands beside another, in any case of their letters: the first that differ decide.
+// A part of the text as a row has it.
+fn part(text: &[u8], start: u32, len: u32) -> &[u8]
+    ensures { result.now ≡ viewed text.now start len }
+{
+    octets::view(text, start as usize, len as usize)
+}
+
+// Where one key stands beside another, in any case of their letters: the first that differ decide. Most are the same as they are.
 fn key_order(a: &[u8], b: &[u8]) -> Ordering
     ensures { result ≡ key_order a.now b.now }
 {
-    a.iter()
-        .map(|x| octets::lower(*x))
-        .cmp(b.iter().map(|x| octets::lower(*x)))
+    for (x, y) in a.iter().zip(b) {
+        if *x != *y {
+            let order = octets::lower(*x).cmp(&octets::lower(*y));
+            if order.is_ne() {
+                return order;
+            }
+        }
+    }
+    a.len().cmp(&b.len())
 }
 
 // The same of the values of two parameters: an absent one stands before one that is present.
@@ -39,13 +52,6 @@ fn value_order(text: &[u8], p: ParameterRow, q: ParameterRow) -> Ordering
         (_, 0) => Ordering::Greater,
         _ => part(text, p.value_start, p.value_len).cmp(part(text, q.value_start, q.value_len)),
     }
-}
-
-// A part of the text as a row has it.
-fn part(text: &[u8], start: u32, len: u32) -> &[u8]
-    ensures { result.now ≡ viewed text.now start len }
-{
-    octets::view(text, start as usize, len as usize)
 }
 
 // Where one parameter stands beside another in the order of a shelf: their keys decide, and then their values.
@@ -79,7 +85,7 @@ struct Shelf<'a> {
 }
 
 impl<'a> Shelf<'a> {
-    ghost use Rattle.sifting.specs.Rounds.{lands, Counted, Reduced, Level};
+    ghost use Rattle.sifting.specs.Rounds.{row_of, place, lands, alike, Settled, Counted, Reduced, Level};
 
     fn new(runs: &Runs<'a>) -> Self
         ensures { result.runs ≡ runs.now }
@@ -94,8 +100,9 @@ impl<'a> Shelf<'a> {
     fn place_of(&self, row: usize) -> usize
         requires { row < length self.now.runs.parameters.now / parameter_size }
         ensures within { result ≤ length self.now.rows.items }
-        ensures value { result ≡ looked_for self.now.runs.text.now self.now.runs.parameters.now self.now.rows.items (parameter_in self.now.runs.text.now self.now.runs.parameters.now row) }
+        ensures value { result ≡ place self.now (row_of self.now row) }
     {
+        // By hand: the library's search promises a place only in a sorted slice, and no answer here rests on the order of a shelf.
         let rows = self.rows.as_slice();
         let mut lo: usize = 0;
         let mut hi = rows.len();
@@ -113,7 +120,7 @@ impl<'a> Shelf<'a> {
     // The place where a row that is the same stands, if it stands where it is looked for.
     fn landing_of(&self, row: usize) -> Option<usize>
         requires { row < length self.now.runs.parameters.now / parameter_size }
-        ensures value { result ≡ lands self.now (parameter_in self.now.runs.text.now self.now.runs.parameters.now row) }
+        ensures value { result ≡ lands self.now (row_of self.now row) }
         ensures on_shelf { IfSome result (λ place. place < shelf_size) }
     {
         let rows = self.rows.as_slice();
@@ -173,7 +180,7 @@ impl<'a> Shelf<'a> {
     // Takes the rows of the second run off the tallies of the first, unless more of them land on a place than of the first.
     fn count_down(&self, tally: &mut [usize; SHELF]) -> bool
         requires { Counted self.now tally.old self.now.runs.count }
-        ensures unlike { result ≡ false → same_runs self.now.runs.text.now self.now.runs.parameters.now self.now.runs.a self.now.runs.b self.now.runs.count ≡ false }
+        ensures unlike { result ≡ false → alike self.now ≡ false }
         ensures reduced { result ≡ true → Reduced self.now tally.new self.now.runs.count }
     {
         let runs = &self.runs;
@@ -190,7 +197,7 @@ impl<'a> Shelf<'a> {
 
     // Whether as many rows of the first run as of the second land on each place.
     fn are_even(&self) -> bool
-        ensures unlike { result ≡ false → same_runs self.now.runs.text.now self.now.runs.parameters.now self.now.runs.a self.now.runs.b self.now.runs.count ≡ false }
+        ensures unlike { result ≡ false → alike self.now ≡ false }
         ensures level { result ≡ true → Level self.now }
     {
         let mut tally = [0usize; SHELF];
@@ -203,9 +210,9 @@ impl<'a> Shelf<'a> {
     fn settle(&self, from: usize, next: usize) -> bool
         requires in_run { (from ≤ next) × (next ≤ self.now.runs.count) }
         requires level { Level self.now }
-        requires settled_to { SettledTo self.now.runs.text.now self.now.runs.parameters.now self.now.runs.a self.now.runs.b self.now.runs.count from }
-        ensures unlike { result ≡ false → same_runs self.now.runs.text.now self.now.runs.parameters.now self.now.runs.a self.now.runs.b self.now.runs.count ≡ false }
-        ensures settled_on { result ≡ true → SettledTo self.now.runs.text.now self.now.runs.parameters.now self.now.runs.a self.now.runs.b self.now.runs.count next }
+        requires settled_to { Settled self.now from }
+        ensures unlike { result ≡ false → alike self.now ≡ false }
+        ensures settled_on { result ≡ true → Settled self.now next }
     {
         let runs = &self.runs;
         for k in from..next {
@@ -231,6 +238,7 @@ fn in_rounds(runs: &Runs) -> bool
 {
     let mut shelf = Shelf::new(runs);
     let mut from: usize = 0;
+    // Not a range, as each round says where the next begins.
     while from < runs.count {
         let next = shelf.gather(from);
         if !shelf.are_even() || !shelf.settle(from, next) {

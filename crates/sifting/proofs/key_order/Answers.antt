@@ -1,14 +1,15 @@
--- Both keys are read in lower case, letter by letter.
-use Rattle.std.proofs.Common.{◌≡◌, refl, rules}
-use Rattle.std.specs.Ordering.{nat_cmp}
-use Rattle.std.proofs.lemmas.Iterator.{YieldsList-from_slice, YieldsList-from_map}
-use Rattle.std.proofs.lemmas.Iterator.Search.{cmp_from_yields_List}
-use Rattle.octets.specs.Bytes.{lowered}
+-- At the end of one key, how long they are decides.
+use Rattle.std.proofs.Common.{length, sym, ◌∙◌}
+use Rattle.std.proofs.lemmas.Slice.Zip.{zip_end}
+use Rattle.sifting.proofs.Orders.{order_ends}
 use Rattle.sifting.proofs.key_order.Goals as goal
 
 pub returns : goal.returns
 returns c =
-    cmp_from_yields_List (λ x y. y ≡ x) _ nat_cmp _ c.cmp.ensures.ran
-    (YieldsList-from_map _ lowered (YieldsList-from_slice c.args.a.now cc) c.map.ensures.closure (λ x r q k. search rules))
-    (λ it e. rw e (YieldsList-from_map _ lowered (YieldsList-from_slice c.args.b.now cc) c.map-2.ensures.closure (λ x r q k. search rules)))
-    (λ x y. refl)
+    let a = c.args.a.now in
+    let b = c.args.b.now in
+    let ends =
+    zip_end a b c.loop-x.yielded c.into_iter-x-iterator.result c.loop-x.x-iterator c.next.new.self c.next.result (cc) (cc)
+    c.loop-x.yielded_by c.in-None.is c.next.ensures.steps
+    in
+    c.cmp.ensures ∙ (sym (order_ends a b (length c.loop-x.yielded) ends) ∙ c.loop-x.invariant)
