@@ -1,7 +1,7 @@
 // The public calls for C and Rust. A slice is two words there, where it starts and how long it is; the numbers of an answer go into a lent array.
 #![tactic(auto)]
 
-ghost use Rattle.std.specs.Prelude.{◌≡◌, length};
+ghost use Rattle.std.specs.Prelude.{◌≡◌, ℕ, List, length};
 ghost use Rattle.tables.specs.Lent.{lent};
 ghost use Rattle.reading.specs.Answers.{unfold_answer, measuring_of, text_after};
 ghost use Rattle.reading.specs.Lent.{read_into, left, fill_from, left_filled};
@@ -22,18 +22,55 @@ use octets::Output;
 use reading::Reading;
 use twins::Compared;
 
-// Puts the six numbers of a reading into the lent array.
-fn tell_reading(r: Reading, numbers: &mut [usize; 6])
-    ensures { numbers.new ≡ reading_numbers r }
-{
-    *numbers = [
-        r.answer as usize,
-        r.place,
-        r.length,
-        r.components,
-        r.properties,
-        r.parameters,
-    ];
+// The numbers of an answer, in the order in which they go into the lent array.
+trait Numbers<const N: usize> {
+    ghost numbers: { Self → List ℕ };
+
+    fn numbers(self) -> [usize; N]
+        ensures { result ≡ numbers self };
+}
+
+// The six numbers of a reading.
+impl Numbers<6> for Reading {
+    ghost numbers = { reading_numbers };
+
+    fn numbers(self) -> [usize; 6] {
+        [
+            self.answer as usize,
+            self.place,
+            self.length,
+            self.components,
+            self.properties,
+            self.parameters,
+        ]
+    }
+}
+
+// The answer, the place and the length.
+impl Numbers<3> for Output {
+    ghost numbers = { output_numbers };
+
+    fn numbers(self) -> [usize; 3] {
+        [self.answer as usize, self.place, self.length]
+    }
+}
+
+// The answer, the place and 1 for twins.
+impl Numbers<3> for Compared {
+    ghost numbers = { twin_numbers };
+
+    fn numbers(self) -> [usize; 3] {
+        [self.answer as usize, self.place, self.twins as usize]
+    }
+}
+
+// The answer, the place and the count.
+impl Numbers<3> for Neighbours {
+    ghost numbers = { neighbour_numbers };
+
+    fn numbers(self) -> [usize; 3] {
+        [self.answer as usize, self.place, self.twins]
+    }
 }
 
 // Reads a feed into the text and the three tables. Of a line in a component that is no property the numbers tell what is wrong: 17 ReservedKey,
@@ -52,10 +89,8 @@ pub extern "C" fn hawniretem_read(
     ensures lent_after { lent text.new components.new properties.new parameters.new
         ≡ left feed.now (lent text.old components.old properties.old parameters.old) }
 {
-    tell_reading(
-        reading::read_components(feed, text, components, properties, parameters),
-        numbers,
-    )
+    let told = reading::read_components(feed, text, components, properties, parameters);
+    *numbers = told.numbers();
 }
 
 // Unfolds a feed into the text and tells the rows that it needs, so that as many can be lent. No table is lent, and 10 is never told.
@@ -64,7 +99,7 @@ pub extern "C" fn hawniretem_measure(feed: &[u8], text: &mut [u8], numbers: &mut
     ensures numbers_after { numbers.new ≡ reading_numbers (measuring_of feed.now (length text.old)) }
     ensures text_after { text.new ≡ text_after feed.now text.old }
 {
-    tell_reading(reading::measure_components(feed, text), numbers)
+    *numbers = reading::measure_components(feed, text).numbers();
 }
 
 // Reads an unfolded text into the three tables: the first bytes that measuring left, as many as it told, and no more.
@@ -81,17 +116,8 @@ pub extern "C" fn hawniretem_fill(
     ensures tables_after { lent text.now components.new properties.new parameters.new
         ≡ left_filled (lent text.now components.old properties.old parameters.old) }
 {
-    tell_reading(
-        reading::fill_components(text, components, properties, parameters),
-        numbers,
-    )
-}
-
-// Puts the answer, the place and the length into the lent array.
-fn tell(output: Output, numbers: &mut [usize; 3])
-    ensures { numbers.new ≡ output_numbers output }
-{
-    *numbers = [output.answer as usize, output.place, output.length];
+    let told = reading::fill_components(text, components, properties, parameters);
+    *numbers = told.numbers();
 }
 
 // Unfolds a feed.
@@ -100,7 +126,7 @@ pub extern "C" fn hawniretem_unfold(feed: &[u8], text: &mut [u8], numbers: &mut 
     ensures numbers_after { numbers.new ≡ output_numbers (unfold_answer feed.now (length text.old)) }
     ensures text_after { text.new ≡ text_after feed.now text.old }
 {
-    tell(reading::unfold_feed(feed, text), numbers)
+    *numbers = reading::unfold_feed(feed, text).numbers();
 }
 
 // Folds a line as the repository does.
@@ -109,7 +135,7 @@ pub extern "C" fn hawniretem_fold_line(line: &[u8], out: &mut [u8], numbers: &mu
     ensures numbers_after { numbers.new ≡ output_numbers (fold_answer repository_line repository line.now (length out.old)) }
     ensures out_after { out.new ≡ fold_out repository_line repository line.now out.old }
 {
-    tell(folding::fold_line(line, out), numbers)
+    *numbers = folding::fold_line(line, out).numbers();
 }
 
 // Folds a line as RFC 5545 asks.
@@ -118,7 +144,7 @@ pub extern "C" fn hawniretem_fold_strict(line: &[u8], out: &mut [u8], numbers: &
     ensures numbers_after { numbers.new ≡ output_numbers (fold_answer strict_line strict line.now (length out.old)) }
     ensures out_after { out.new ≡ fold_out strict_line strict line.now out.old }
 {
-    tell(folding::fold_strict(line, out), numbers)
+    *numbers = folding::fold_strict(line, out).numbers();
 }
 
 // Quotes a parameter value where it wants quotes.
@@ -127,17 +153,17 @@ pub extern "C" fn hawniretem_quote(value: &[u8], out: &mut [u8], numbers: &mut [
     ensures numbers_after { numbers.new ≡ output_numbers (quote_answer value.now (length out.old)) }
     ensures out_after { out.new ≡ quote_out value.now out.old }
 {
-    tell(quoting::quote_special_chars(value, out), numbers)
+    *numbers = quoting::quote_special_chars(value, out).numbers();
 }
 
 // The mode of reading text that a number names: 0 the strict one, any other the second.
 fn mode_of(mode: u32) -> Mode
     ensures { result ≡ mode_of mode }
 {
-    if mode == 0 {
-        return Mode::Strict;
+    match mode {
+        0 => Mode::Strict,
+        _ => Mode::Repository,
     }
-    Mode::Repository
 }
 
 // Reads a value as the text that it stands for.
@@ -151,7 +177,7 @@ pub extern "C" fn hawniretem_read_text(
     ensures numbers_after { numbers.new ≡ output_numbers (text_answer (mode_of mode) value.now (length out.old)) }
     ensures out_after { out.new ≡ text_out (mode_of mode) value.now out.old }
 {
-    tell(escapes::read_text(mode_of(mode), value, out), numbers)
+    *numbers = escapes::read_text(mode_of(mode), value, out).numbers();
 }
 
 // Writes a text as a value that stands for it.
@@ -160,7 +186,7 @@ pub extern "C" fn hawniretem_write_text(text: &[u8], out: &mut [u8], numbers: &m
     ensures numbers_after { numbers.new ≡ output_numbers (value_answer text.now (length out.old)) }
     ensures out_after { out.new ≡ value_out text.now out.old }
 {
-    tell(escapes::write_text(text, out), numbers)
+    *numbers = escapes::write_text(text, out).numbers();
 }
 
 // Writes the trees of three tables as a calendar.
@@ -178,17 +204,8 @@ pub extern "C" fn hawniretem_write(
     ensures out_after { out.new
         ≡ write_out (lent text.now components.now properties.now parameters.now) out.old }
 {
-    tell(
-        writing::write_components(text, components, properties, parameters, out),
-        numbers,
-    )
-}
-
-// Puts the answer, the place and 1 for twins into the lent array.
-fn tell_twins(told: Compared, numbers: &mut [usize; 3])
-    ensures { numbers.new ≡ twin_numbers told }
-{
-    *numbers = [told.answer as usize, told.place, told.twins as usize];
+    let told = writing::write_components(text, components, properties, parameters, out);
+    *numbers = told.numbers();
 }
 
 // Whether two component rows are twins.
@@ -205,10 +222,8 @@ pub extern "C" fn hawniretem_twins(
     ensures { numbers.new
         ≡ twin_numbers (twins_answer (lent text.now components.now properties.now parameters.now) first second) }
 {
-    tell_twins(
-        twins::compare_twins(text, components, properties, parameters, first, second),
-        numbers,
-    )
+    let told = twins::compare_twins(text, components, properties, parameters, first, second);
+    *numbers = told.numbers();
 }
 
 // Whether two component rows are loose twins.
@@ -225,17 +240,8 @@ pub extern "C" fn hawniretem_loose_twins(
     ensures { numbers.new
         ≡ twin_numbers (loose_twins_answer (lent text.now components.now properties.now parameters.now) first second) }
 {
-    tell_twins(
-        twins::compare_loose_twins(text, components, properties, parameters, first, second),
-        numbers,
-    )
-}
-
-// Puts the answer, the place and the count into the lent array.
-fn tell_neighbours(told: Neighbours, numbers: &mut [usize; 3])
-    ensures { numbers.new ≡ neighbour_numbers told }
-{
-    *numbers = [told.answer as usize, told.place, told.twins];
+    let told = twins::compare_loose_twins(text, components, properties, parameters, first, second);
+    *numbers = told.numbers();
 }
 
 // How many children of a component are twins of the sibling directly before them.
@@ -251,8 +257,6 @@ pub extern "C" fn hawniretem_neighbours(
     ensures { numbers.new
         ≡ neighbour_numbers (neighbours_answer (lent text.now components.now properties.now parameters.now) parent) }
 {
-    tell_neighbours(
-        neighbours::count_neighbours(text, components, properties, parameters, parent),
-        numbers,
-    )
+    let told = neighbours::count_neighbours(text, components, properties, parameters, parent);
+    *numbers = told.numbers();
 }

@@ -1,6 +1,6 @@
 pub mod Alike
 pub mod Rows
 pub mod Parameters
-pub mod Properties
+pub mod Left
 pub mod Texts
 pub mod Meaning

@@ -1,3 +1,3 @@
 pub mod Alike
-pub mod Tests
+pub mod Held
 pub mod Meaning

@@ -1,25 +1,52 @@
 // Whether two rows say the same: names, values, the parameters of two properties, and the properties of two components.
 #![tactic(auto)]
 
-ghost use Rattle.std.specs.Prelude.{◌≡◌, ◌&&◌, ◌<◌, ◌/◌, length};
+ghost use Rattle.std.specs.Prelude.{◌≡◌, ◌&&◌, ◌<◌, ◌≤◌, ◌/◌, ℕ, Bool, List, [], ◌∷◌, length, MatchOption};
 ghost use Rattle.octets.specs.Views.{viewed};
-ghost use Rattle.tables.specs.Rows.{property_size, property_at};
-ghost use Rattle.tables.specs.Lent.{properties_in, parameters_in};
+ghost use Rattle.tables.specs.Rows.{property_size};
+ghost use Rattle.tables.specs.Lent.{held, properties_in, parameters_in};
 ghost use Rattle.tables.specs.Trees.{properties_of};
-ghost use Rattle.tables.specs.Fronts.{own_parameters, own_property};
 ghost use Rattle.walking.specs.Places.{RisingParameters, Owns};
-ghost use Rattle.comparing.specs.Pieces.{same_name, same_key, same_parameters};
+ghost use Rattle.escapes.specs.Loose.{same_text};
+ghost use Rattle.comparing.specs.Pieces.{same_name, same_key, same_value, same_parameters};
 ghost use Rattle.matching.specs.Alike.{alike, same_property_by};
-ghost use Rattle.matching.specs.Tests.{values_by};
+ghost use Rattle.matching.specs.Held.{property_in, left};
 
-use tables::{ComponentRow, PropertyRow};
+mod properties;
+
+use comparing::Runs;
+use properties::Properties;
+use tables::{ComponentRow, PropertyRow, Row, Tables};
 use walking::Window;
 
-// How the values of two properties are compared: byte by byte, or as the texts that they stand for.
-#[derive(Clone, Copy)]
-pub enum Values {
-    Exact,
-    AsText,
+// How the values of two properties are compared.
+pub trait Values {
+    ghost test: { List ℕ → List ℕ → Bool };
+
+    fn same(a: &[u8], b: &[u8]) -> bool
+        ensures { result ≡ test a.now b.now };
+}
+
+// Byte by byte.
+pub struct Exact;
+
+impl Values for Exact {
+    ghost test = { same_value };
+
+    fn same(a: &[u8], b: &[u8]) -> bool {
+        octets::same_bytes(a, b)
+    }
+}
+
+// As the texts that they stand for.
+pub struct AsText;
+
+impl Values for AsText {
+    ghost test = { same_text };
+
+    fn same(a: &[u8], b: &[u8]) -> bool {
+        escapes::same_text(a, b)
+    }
 }
 
 // A property row, and the parameter row from which on those that belong to it stand.
@@ -46,41 +73,35 @@ pub fn same_name(text: &[u8], a: ComponentRow, b: ComponentRow) -> bool
 }
 
 // Whether two properties have the same value, by the test that is asked for.
-pub fn same_value(values: Values, text: &[u8], p: PropertyRow, q: PropertyRow) -> bool
+pub fn same_value<V: Values>(text: &[u8], p: PropertyRow, q: PropertyRow) -> bool
     ensures { result
-        ≡ values_by values (viewed text.now p.value_start p.value_len) (viewed text.now q.value_start q.value_len) }
+        ≡ V.test (viewed text.now p.value_start p.value_len) (viewed text.now q.value_start q.value_len) }
 {
     let one = comparing::span(p.value_start, p.value_len);
     let other = comparing::span(q.value_start, q.value_len);
-    match values {
-        Values::Exact => comparing::same_part(text, one, other),
-        Values::AsText => escapes::same_text(
-            octets::view(text, one.start, one.len),
-            octets::view(text, other.start, other.len),
-        ),
-    }
+    V::same(
+        octets::view(text, one.start, one.len),
+        octets::view(text, other.start, other.len),
+    )
 }
 
 // Whether two properties have the same key and the same value; their parameters are not looked at.
-pub fn same_key_and_value(values: Values, text: &[u8], p: PropertyRow, q: PropertyRow) -> bool
+pub fn same_key_and_value<V: Values>(text: &[u8], p: PropertyRow, q: PropertyRow) -> bool
     ensures { result
         ≡ same_key (viewed text.now p.key_start p.key_len) (viewed text.now q.key_start q.key_len)
-        && values_by values (viewed text.now p.value_start p.value_len) (viewed text.now q.value_start q.value_len) }
+        && V.test (viewed text.now p.value_start p.value_len) (viewed text.now q.value_start q.value_len) }
 {
     let one = comparing::span(p.key_start, p.key_len);
     let other = comparing::span(q.key_start, q.key_len);
-    if !comparing::same_key(text, one, other) {
-        return false;
-    }
-    same_value(values, text, p, q)
+    comparing::same_key(text, one, other) && same_value::<V>(text, p, q)
 }
 
 // Whether two properties have the same parameters, in any order.
-pub fn same_parameters(text: &[u8], parameters: &[u32], a: Held, b: Held) -> bool
+pub fn same_parameters(tables: &Tables, a: Held, b: Held) -> bool
     ensures { result
-        ≡ same_parameters (own_parameters text.now a.property a.first (parameters_in parameters.now))
-        (own_parameters text.now b.property b.first (parameters_in parameters.now)) }
+        ≡ same_parameters (property_in (held tables.now) a).parameters (property_in (held tables.now) b).parameters }
 {
+    let parameters = tables.parameters;
     let count = walking::run_of(parameters, a.first, a.property);
     if walking::run_of(parameters, b.first, b.property) != count {
         return false;
@@ -88,72 +109,84 @@ pub fn same_parameters(text: &[u8], parameters: &[u32], a: Held, b: Held) -> boo
     if count == 0 {
         return true;
     }
-    sifting::same_runs(text, parameters, a.first, b.first, count)
+    let runs = Runs {
+        text: tables.text,
+        parameters,
+        a: a.first,
+        b: b.first,
+        count,
+    };
+    sifting::same_runs(&runs)
 }
 
 // Whether two properties are the same: key, value and parameters.
-pub fn same_property(
-    values: Values,
-    text: &[u8],
-    properties: &[u32],
-    parameters: &[u32],
-    a: Held,
-    b: Held,
-) -> bool
-    requires { (a.property < length properties.now / property_size) × (b.property < length properties.now / property_size) }
-    ensures { result ≡ same_property_by (values_by values) same_parameters
-        (own_property text.now (property_at properties.now a.property) a.property a.first (parameters_in parameters.now))
-        (own_property text.now (property_at properties.now b.property) b.property b.first (parameters_in parameters.now)) }
+pub fn same_property<V: Values>(tables: &Tables, a: Held, b: Held) -> bool
+    requires { (a.property < length tables.now.properties.now / property_size)
+        × (b.property < length tables.now.properties.now / property_size) }
+    ensures { result
+        ≡ same_property_by V.test same_parameters (property_in (held tables.now) a) (property_in (held tables.now) b) }
 {
-    let p = tables::property_at(properties, a.property);
-    let q = tables::property_at(properties, b.property);
-    if !same_key_and_value(values, text, p, q) {
-        return false;
+    let p = PropertyRow::at(tables.properties, a.property);
+    let q = PropertyRow::at(tables.properties, b.property);
+    same_key_and_value::<V>(tables.text, p, q) && same_parameters(tables, a, b)
+}
+
+impl Properties<'_> {
+    // The next one, if one is left.
+    fn next(&mut self) -> Option<Held>
+        requires { RisingParameters (parameters_in self.old.tables.now.parameters.now) }
+        ensures same_tables { self.new.tables.now ≡ self.old.tables.now }
+        ensures next { MatchOption result (left self.old ≡ [])
+            (λ h. (h.property < length self.old.tables.now.properties.now / property_size)
+            × (left self.old ≡ property_in (held self.old.tables.now) h ∷ left self.new)) }
+    {
+        let property = walking::next_own(self.tables.properties, self.row, self.at, self.last);
+        if self.last <= property {
+            return None;
+        }
+        let first = walking::first_held(self.tables.parameters, self.first, property);
+        self.at = property + 1;
+        self.first = first;
+        Some(Held { property, first })
     }
-    same_parameters(text, parameters, a, b)
+}
+
+impl Side {
+    // The properties of the component; all of them stand in its window.
+    fn properties<'a>(self, tables: &'a Tables<'a>) -> Properties<'a>
+        requires { Owns (properties_in tables.now.properties.now) (parameters_in tables.now.parameters.now) self.row self.window }
+        ensures same_tables { result.tables.now ≡ tables.now }
+        ensures all { left result
+            ≡ properties_of tables.now.text.now (properties_in tables.now.properties.now) (parameters_in tables.now.parameters.now) self.row }
+    {
+        Properties {
+            tables,
+            row: self.row,
+            at: self.window.first,
+            last: self.window.last,
+            first: self.window.parameter,
+        }
+    }
 }
 
 // Whether two components have the same properties, in order; all of each stand in its window.
-pub fn same_properties(
-    values: Values,
-    text: &[u8],
-    properties: &[u32],
-    parameters: &[u32],
-    a: Side,
-    b: Side,
-) -> bool
-    requires { RisingParameters (parameters_in parameters.now)
-        × Owns (properties_in properties.now) (parameters_in parameters.now) a.row a.window
-        × Owns (properties_in properties.now) (parameters_in parameters.now) b.row b.window }
-    ensures { result ≡ alike (same_property_by (values_by values) same_parameters)
-        (properties_of text.now (properties_in properties.now) (parameters_in parameters.now) a.row)
-        (properties_of text.now (properties_in properties.now) (parameters_in parameters.now) b.row) }
+pub fn same_properties<V: Values>(tables: &Tables, a: Side, b: Side) -> bool
+    requires rising { RisingParameters (parameters_in tables.now.parameters.now) }
+    requires a_owns { Owns (properties_in tables.now.properties.now) (parameters_in tables.now.parameters.now) a.row a.window }
+    requires b_owns { Owns (properties_in tables.now.properties.now) (parameters_in tables.now.parameters.now) b.row b.window }
+    ensures { result ≡ alike (same_property_by V.test same_parameters)
+        (properties_of tables.now.text.now (properties_in tables.now.properties.now) (parameters_in tables.now.parameters.now) a.row)
+        (properties_of tables.now.text.now (properties_in tables.now.properties.now) (parameters_in tables.now.parameters.now) b.row) }
 {
-    let a_last = a.window.last;
-    let b_last = b.window.last;
-    let mut i = walking::next_own(properties, a.row, a.window.first, a_last);
-    let mut j = walking::next_own(properties, b.row, b.window.first, b_last);
-    let mut p = a.window.parameter;
-    let mut q = b.window.parameter;
-    while i < a_last {
-        if b_last <= j {
+    let mut one = a.properties(tables);
+    let mut other = b.properties(tables);
+    while let Some(p) = one.next() {
+        let Some(q) = other.next() else {
+            return false;
+        };
+        if !same_property::<V>(tables, p, q) {
             return false;
         }
-        p = walking::first_held(parameters, p, i);
-        q = walking::first_held(parameters, q, j);
-        let one = Held {
-            property: i,
-            first: p,
-        };
-        let other = Held {
-            property: j,
-            first: q,
-        };
-        if !same_property(values, text, properties, parameters, one, other) {
-            return false;
-        }
-        i = walking::next_own(properties, a.row, i + 1, a_last);
-        j = walking::next_own(properties, b.row, j + 1, b_last);
     }
-    b_last <= j
+    other.next().is_none()
 }

@@ -5,12 +5,13 @@ use Prim.Native.Nat.{ℕ, ◌+◌, ◌≤◌, ◌<◌, zero-le}
 use native.Mathlib.Nat.{add_assoc}
 use native.Mathlib.Omega.{arith}
 use lib.ListN.{length}
+use mir.Val.{bool_byte}
 use Rattle.octets.specs.Choice.{pick}
 use Rattle.octets.specs.Answers.{deepest}
 use Rattle.tables.specs.Trees.{Trees, none}
 use Rattle.tables.specs.Lent.{Lent, tree_in}
 use Rattle.walking.specs.Walk.{end_of, Reached}
-use Rattle.walking.specs.Places.{Ruled, Ordered}
+use Rattle.walking.specs.Places.{Ruled}
 use Rattle.walking.specs.declared.Cursor.{Cursor}
 use Rattle.walking.proofs.Siblings.{end_later}
 use Rattle.walking.proofs.Walks.{reached_start, reached_on}
@@ -44,26 +45,24 @@ module _ (b : Lent) (parent last : ℕ) where
   over before row h = ap (repeats before) (none_ahead b levels parent row last h)
 
   -- the children up to `next` are compared, the last of them is `before`, and so many are like the one before them
-  pub record Counting (before next : Spot) (ordered : Bool) (found : ℕ) : Type 0 where
+  pub record Counting (before next : Spot) (found : ℕ) : Type 0 where
     pub here : before.row < last
     pub ahead : Children b parent last next.row next.cursor
     pub there : Children b parent last before.row before.cursor
     pub behind : next.row ≡ end_of (comps b) before.row
-    pub order : Ordered b ordered
     pub few : found ≤ before.row
     pub count : found + repeats (tree_in b levels before.row) (ahead_of next.row) ≡ repeats none (ahead_of (parent + 1))
 
-  module _ {before next : Spot} {ordered : Bool} {found : ℕ} (c : Counting before next ordered found) where
-    pub counted : {twins : ℕ} {ordered' : Bool} {next' : Spot} → next.row < last → twins ≡ pick (twin_rows b before.row next.row) 1 0
-        → Ordered b ordered' → next'.row ≡ end_of (comps b) next.row → Reached (props b) (params b) next'.cursor next'.row
-        → Counting next next' ordered' (found + twins)
-    counted {twins} h e o f r =
+  module _ {before next : Spot} {found : ℕ} (c : Counting before next found) where
+    pub counted : {twins : ℕ} {next' : Spot} → next.row < last → twins ≡ pick (twin_rows b before.row next.row) 1 0
+        → next'.row ≡ end_of (comps b) next.row → Reached (props b) (params b) next'.cursor next'.row
+        → Counting next next' (found + twins)
+    counted {twins} h e f r =
         record {
           here = h;
           ahead = onward b c.ahead h f r;
           there = c.ahead;
           behind = f;
-          order = o;
           few = omega (arith, c.few, c.behind, end_later (comps b) before.row, at_most_one (twin_rows b before.row next.row) e);
           count = rw (f, e, add_assoc) (ap (λ (n : ℕ). found + n) (sym (turn (tree_in b levels before.row) c.ahead h)) ∙ c.count);
         }
@@ -86,19 +85,23 @@ module _ (b : Lent) (parent last : ℕ) where
       child_there = rw e first_child_holds
 
       pub begin_count : {next : Spot} → next.row ≡ end_of (comps b) child.row → Reached (props b) (params b) next.cursor next.row
-          → Counting child next false 0
+          → Counting child next 0
       begin_count f r =
           record {
             here = h;
             ahead = onward b child_there h f r;
             there = child_there;
             behind = f;
-            order = λ o. absurd (let z : ◌≡◌ {A = ℕ} 0 1 = cc in omega arith);
             few = zero-le;
             count = rw (f, e) (sym (turn none first_child_holds (rw e at h) ∙ rw (none_first same_value same_parameters)));
           }
 
     -- there is none behind the last one
-    pub end_count : {before next : Spot} {ordered : Bool} {found : ℕ} → Counting before next ordered found → last ≤ next.row
+    pub end_count : {before next : Spot} {found : ℕ} → Counting before next found → last ≤ next.row
         → found ≡ repeats none (children_in b parent)
     end_count {before} {next} c h = omega (arith, c.count, over (tree_in b levels before.row) next.row h, ap (repeats none) children_are)
+
+-- a pair that is alike counts one
+pub as_many : {n : ℕ} {alike : Bool} (told : Bool) → n ≡ bool_byte told → told ≡ alike → n ≡ pick alike 1 0
+as_many true e a = rw (← a) e
+as_many false e a = rw (← a) e

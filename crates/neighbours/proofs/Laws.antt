@@ -7,7 +7,7 @@ use lib.ListN.{length}
 use Rattle.octets.specs.Words.{same_bytes}
 use Rattle.tables.specs.Trees.{Trees, none, tree, properties_of}
 use Rattle.tables.specs.Lent.{Lent, tree_in, name_in, broken_in}
-use Rattle.tables.specs.declared.Found.TheVariants.{Nothing}
+use Rattle.std.specs.Prelude.{None}
 use Rattle.tables.proofs.Levels.{tree_enough}
 use Rattle.tables.proofs.Nested.{rows_nested}
 use Rattle.walking.proofs.Along.{comps, props, params}
@@ -17,7 +17,7 @@ use Rattle.twins.specs.Answers.{levels}
 use Rattle.neighbours.specs.Counts.{repeats, children_in}
 
 -- the tree of a row has the children that are counted: one level more adds nothing
-pub tree_has : (b : Lent) (row : ℕ) → broken_in b ≡ Nothing → row < length (comps b)
+pub tree_has : (b : Lent) (row : ℕ) → broken_in b ≡ None → row < length (comps b)
     → tree_in b levels row ≡ tree (name_in b.text (comps b) row) (properties_of b.text (props b) (params b) row) (children_in b row) none
 tree_has b row sound h =
     let fits = (ruled b sound).components in

@@ -1,7 +1,7 @@
 -- How many children of a component are like the sibling directly before them, and what the count answers (document 01, "Writing and trees" and
 -- "What each number returns and leaves": the numbers of the twin test).
 -- Assumes nothing.
-use Rattle.std.specs.Prelude.{ℕ, ◌+◌, length}
+use Rattle.std.specs.Prelude.{ℕ, ◌+◌, length, Result, Ok, Err}
 use Rattle.octets.specs.Choice.{pick}
 use Rattle.octets.specs.Answers.{deepest, done, bad_table}
 use Rattle.tables.specs.Lent.{Lent, components_in, properties_in, parameters_in, broken_in}
@@ -36,6 +36,11 @@ neighbours answer place twins = record { answer = answer; place = place; twins =
 -- 14 with a row that breaks the table rule, or with a number that is not below the component count
 abbrev pub not_counted : ℕ → Neighbours
 not_counted place = neighbours bad_table place 0
+
+-- what was found out, as an answer
+abbrev pub told : Result ℕ ℕ → Neighbours
+told (Ok twins) = neighbours done 0 twins
+told (Err place) = not_counted place
 
 unfoldable pub neighbours_answer : Lent → ℕ → Neighbours
 neighbours_answer b parent =

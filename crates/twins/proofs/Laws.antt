@@ -18,8 +18,7 @@ use Rattle.tables.specs.Rows.{no_parent, component_at}
 use Rattle.tables.specs.Lent.{Lent, broken_in, tree_in, trees_in}
 use Rattle.tables.specs.Trees.{Trees, none, gather, grown, forest}
 use Rattle.tables.specs.declared.ComponentRow.{ComponentRow}
-use Rattle.tables.specs.declared.Found.{Found}
-use Rattle.tables.specs.declared.Found.TheVariants.{Nothing, At}
+use Rattle.std.specs.Prelude.{Option, Some, None}
 use Rattle.tables.proofs.Levels.{tree_enough}
 use Rattle.tables.proofs.Nested.{component_of, depth_of, rows_nested}
 use Rattle.tables.proofs.Rule.{meets}
@@ -42,7 +41,7 @@ use Rattle.twins.proofs.Answers.{broken_row, no_first, no_second, told}
 
 -- the question can be asked: the table rule is met, and both numbers are below the count
 pub record Asked (b : Lent) (first second : ℕ) : Type 0 where
-  pub sound : broken_in b ≡ Nothing
+  pub sound : broken_in b ≡ None
   pub first_there : first < length (comps b)
   pub second_there : second < length (comps b)
 
@@ -62,17 +61,17 @@ module _ (values : List ℕ → List ℕ → Bool) (b : Lent) (first second : �
   asked : {n : ℕ} → answer ≡ compared done 0 n → Asked b first second
   asked e = by_rule (broken_in b) refl
     where
-      by_second : broken_in b ≡ Nothing → first < length (comps b) → (t : Bool) → ltb second (length (comps b)) ≡ t → Asked b first second
+      by_second : broken_in b ≡ None → first < length (comps b) → (t : Bool) → ltb second (length (comps b)) ≡ t → Asked b first second
       by_second s h true t = record { sound = s; first_there = h; second_there = ltb-true second (length (comps b)) t }
       by_second s h false t = absurd (refused e (no_second values b first second s h (ltb-false second (length (comps b)) t)))
 
-      by_first : broken_in b ≡ Nothing → (t : Bool) → ltb first (length (comps b)) ≡ t → Asked b first second
+      by_first : broken_in b ≡ None → (t : Bool) → ltb first (length (comps b)) ≡ t → Asked b first second
       by_first s true t = by_second s (ltb-true first (length (comps b)) t) (ltb second (length (comps b))) refl
       by_first s false t = absurd (refused e (no_first values b first second s (ltb-false first (length (comps b)) t)))
 
-      by_rule : (f : Found) → broken_in b ≡ f → Asked b first second
-      by_rule Nothing s = by_first s (ltb first (length (comps b))) refl
-      by_rule (At row) s = absurd (refused e (broken_row values b first second s))
+      by_rule : (f : Option ℕ) → broken_in b ≡ f → Asked b first second
+      by_rule None s = by_first s (ltb first (length (comps b))) refl
+      by_rule (Some row) s = absurd (refused e (broken_row values b first second s))
 
   -- then it tells whether the trees are alike
   tells : Asked b first second → {t : Bool} → rows_alike_by values b first second ≡ t → answer ≡ compared done 0 (as_number t)
@@ -132,7 +131,7 @@ module _ {values : List ℕ → List ℕ → Bool} (v : Equivalence values) (b :
   abbrev trees : Equivalence (same_trees_by values same_parameters)
   trees = of_trees v of_parameters
 
-  row_itself : (row : ℕ) → broken_in b ≡ Nothing → row < length (comps b) → AlikeBy values b row row
+  row_itself : (row : ℕ) → broken_in b ≡ None → row < length (comps b) → AlikeBy values b row row
   row_itself row s h = (told_exactly values b row row true).1 (record { sound = s; first_there = h; second_there = h }, trees.itself (tree_in b levels row))
 
   row_turned : (first second : ℕ) → AlikeBy values b first second → AlikeBy values b second first
@@ -160,7 +159,7 @@ abbrev pub LooseTwins : Lent → ℕ → ℕ → Type 0
 LooseTwins b first second = loose_twins_answer b first second ≡ compared done 0 1
 
 module _ (b : Lent) where
-  pub twin_itself : (row : ℕ) → broken_in b ≡ Nothing → row < length (comps b) → Twins b row row
+  pub twin_itself : (row : ℕ) → broken_in b ≡ None → row < length (comps b) → Twins b row row
   twin_itself = row_itself of_bytes b
 
   pub twin_turned : (first second : ℕ) → Twins b first second → Twins b second first
@@ -169,7 +168,7 @@ module _ (b : Lent) where
   pub twin_joined : (first second third : ℕ) → Twins b first second → Twins b second third → Twins b first third
   twin_joined = row_joined of_bytes b
 
-  pub loose_itself : (row : ℕ) → broken_in b ≡ Nothing → row < length (comps b) → LooseTwins b row row
+  pub loose_itself : (row : ℕ) → broken_in b ≡ None → row < length (comps b) → LooseTwins b row row
   loose_itself = row_itself of_texts b
 
   pub loose_turned : (first second : ℕ) → LooseTwins b first second → LooseTwins b second first
@@ -187,7 +186,7 @@ module _ (b : Lent) where
   -- ---- the trees that are compared
 
   -- the tree of a row is the same with every level that is enough below it, and 63 are
-  pub level_enough : (level row : ℕ) → broken_in b ≡ Nothing → row < length (comps b) → deepest ≤ depth_of (comps b) row + level
+  pub level_enough : (level row : ℕ) → broken_in b ≡ None → row < length (comps b) → deepest ≤ depth_of (comps b) row + level
       → tree_in b level row ≡ tree_in b levels row
   level_enough level row s h e =
       let m = meets (length b.text) (comps b) (props b) (params b) s in

@@ -1,7 +1,7 @@
 -- What the twin test answers (document 01, "Writing and trees" and "What each number returns and leaves"), and the looser one (document 02, request 1):
 -- they differ in the test of values alone.
 -- Assumes nothing.
-use Rattle.std.specs.Prelude.{ℕ, Bool, List, length}
+use Rattle.std.specs.Prelude.{ℕ, Bool, List, length, Result, Ok, Err}
 use Rattle.octets.specs.Choice.{pick}
 use Rattle.octets.specs.Answers.{done, bad_table}
 use Rattle.tables.specs.Lent.{Lent, components_in, broken_in, tree_in}
@@ -31,6 +31,11 @@ twin_rows = rows_alike_by same_value
 -- 14 with a row that breaks the table rule, or with "a row number not below the component count"
 abbrev pub no_twins : ℕ → Compared
 no_twins place = compared bad_table place 0
+
+-- what was found out, as an answer
+abbrev pub told : Result Bool ℕ → Compared
+told (Ok alike) = compared done 0 (pick alike 1 0)
+told (Err place) = no_twins place
 
 -- "the first number first"
 unfoldable pub compared_by : (List ℕ → List ℕ → Bool) → Lent → ℕ → ℕ → Compared

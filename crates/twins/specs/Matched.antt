@@ -1,6 +1,6 @@
 -- Serves inner contracts only. What the recursive comparison tells, and what it knows where it stands.
 -- Assumes nothing.
-use Rattle.std.specs.Prelude.{ℕ, ◌≡◌, Bool, true, ◌&&◌, List}
+use Rattle.std.specs.Prelude.{ℕ, ◌≡◌, Bool, true, false, ◌&&◌, List, Option, MatchOption}
 use Rattle.tables.specs.Lent.{Lent, components_in, properties_in, parameters_in, tree_in, name_in}
 use Rattle.tables.specs.Trees.{properties_of}
 use Rattle.walking.specs.Walk.{end_of, Reached}
@@ -8,7 +8,10 @@ use Rattle.walking.specs.declared.Window.{Window}
 use Rattle.comparing.specs.Pieces.{same_name, same_parameters}
 use Rattle.matching.specs.Alike.{alike, same_property_by, same_trees_by}
 use Rattle.twins.specs.declared.Spot.{Spot}
-use Rattle.twins.specs.declared.Match.{Match}
+
+-- a row that a walk begins at: a cursor of zeros has come to any row
+abbrev pub start_at : ℕ → Spot
+start_at row = record { row = row; cursor = record { property = 0; parameter = 0 } }
 
 -- as far as a spot, at another row
 abbrev pub at_row : ℕ → Spot → Spot
@@ -27,17 +30,25 @@ pub record Ended (b : Lent) (number here : ℕ) (spot : Spot) : Type 0 where
 abbrev pub Behind : Lent → ℕ → Spot → Type 0
 Behind b number spot = Ended b number spot.row spot
 
--- names and properties of two components were compared, values by a test; where they are alike, the walk goes on with the children of both
-pub record Headed (values : List ℕ → List ℕ → Bool) (b : Lent) (one other : ℕ) (m : Match) : Type 0 where
-  pub alike : m.same
-      ≡ same_name (name_in b.text (components_in b.components) one) (name_in b.text (components_in b.components) other)
+module _ (values : List ℕ → List ℕ → Bool) (b : Lent) where
+  -- whether the heads of two rows are alike, names and then properties, and whether their trees are
+  abbrev pub alike_heads : ℕ → ℕ → Bool
+  alike_heads one other =
+      same_name (name_in b.text (components_in b.components) one) (name_in b.text (components_in b.components) other)
       && alike (same_property_by values same_parameters) (properties_of b.text (properties_in b.properties) (parameters_in b.parameters) one)
       (properties_of b.text (properties_in b.properties) (parameters_in b.parameters) other)
-  pub ended_one : m.same ≡ true → Ended b one one m.first
-  pub ended_other : m.same ≡ true → Ended b other other m.second
 
--- two components were compared; where they are alike, the walk goes on behind both
-pub record Matched (values : List ℕ → List ℕ → Bool) (b : Lent) (level one other : ℕ) (m : Match) : Type 0 where
-  pub alike : m.same ≡ same_trees_by values same_parameters (tree_in b level one) (tree_in b level other)
-  pub behind_one : m.same ≡ true → Behind b one m.first
-  pub behind_other : m.same ≡ true → Behind b other m.second
+  abbrev pub alike_trees : ℕ → ℕ → ℕ → Bool
+  alike_trees level one other = same_trees_by values same_parameters (tree_in b level one) (tree_in b level other)
+
+  -- names and properties of two components were compared, values by a test; where they are alike, the walk goes on with the children of both
+  abbrev pub Headed : ℕ → ℕ → Option (Spot × Spot) → Type 0
+  Headed one other found =
+      MatchOption found (alike_heads one other ≡ false)
+      (λ spots. (alike_heads one other ≡ true) × Ended b one one spots.0 × Ended b other other spots.1)
+
+  -- two components were compared; where they are alike, the walk goes on behind both
+  abbrev pub Matched : ℕ → ℕ → ℕ → Option (Spot × Spot) → Type 0
+  Matched level one other found =
+      MatchOption found (alike_trees level one other ≡ false)
+      (λ spots. (alike_trees level one other ≡ true) × Behind b one spots.0 × Behind b other spots.1)
