@@ -1,7 +1,7 @@
 // A case is a line of fields with bars between them: the call, the name, and what the call is given. A field holds bytes, some as their numbers between angle
 // brackets, or numbers with a space between two.
 use arrayvec::ArrayVec;
-use trial::{Tables, Room};
+use trial::{Room, Tables};
 
 #[derive(Clone, Copy)]
 pub struct Case<'a>(pub &'a [u8]);
@@ -20,6 +20,7 @@ impl<'a> Case<'a> {
         self.field(1)
     }
 
+    // Number i of field n: 0 where there are not so many.
     pub fn number(self, n: usize, i: usize) -> usize {
         number(self.field(n), i)
     }

@@ -4,7 +4,6 @@
 #![tactic(auto)]
 
 use cases::fields::{Case, lay_bytes, number};
-use neighbours::Neighbours;
 use std::io;
 use tables::ParameterRow;
 use trial::{OVER, Room, Tables};
@@ -30,20 +29,11 @@ fn ask(rt: &impl Print, case: Case, t: Tables) -> io::Result<()> {
                 t.parameters,
                 row,
             );
-            let Neighbours {
-                answer,
-                place,
-                twins,
-            } = told;
-            print!(rt; " {answer} {place} {twins}")
+            print!(rt; " {} {} {}", told.answer, told.place, told.twins)
         }
         call => {
-            let Compared {
-                answer,
-                place,
-                twins,
-            } = compare(call, t, row, case.number(3, 1));
-            print!(rt; " {answer} {place} {twins}")
+            let told = compare(call, t, row, case.number(3, 1));
+            print!(rt; " {} {} {}", told.answer, told.place, told.twins)
         }
     }
 }
