@@ -1,168 +1,134 @@
-// A case is a line of fields with bars between them. A field holds bytes, some as their numbers between angle brackets, or numbers with a space between two.
-use std::io;
-use trial::say;
+// A case is a line of fields with bars between them: the call, the name, and what the call is given. A field holds bytes, some as their numbers between angle
+// brackets, or numbers with a space between two.
+use arrayvec::ArrayVec;
+use trial::{Room, Tables};
 
-// Part n of bytes with marks between the parts.
-fn part(bytes: &[u8], mark: u8, n: usize) -> &[u8] {
-    let mut start: usize = 0;
-    let mut left = n;
-    while left > 0 {
-        start = octets::count_on(octets::find_near(bytes, start, mark), 1);
-        left -= 1;
+#[derive(Clone, Copy)]
+pub struct Case<'a>(pub &'a [u8]);
+
+impl<'a> Case<'a> {
+    // Field n: empty where there are not so many.
+    pub fn field(self, n: usize) -> &'a [u8] {
+        self.0.split(|b| *b == b'|').nth(n).unwrap_or(&[])
     }
-    let end = octets::find_near(bytes, start, mark);
-    octets::view(bytes, start, end - start)
-}
 
-// How many such marks there are.
-fn marks(bytes: &[u8], mark: u8) -> usize {
-    let mut found: usize = 0;
-    let mut i: usize = 0;
-    while i < bytes.len() {
-        if bytes[i] == mark {
-            found = octets::count_on(found, 1);
+    pub fn call(self) -> &'a [u8] {
+        self.field(0)
+    }
+
+    pub fn name(self) -> &'a [u8] {
+        self.field(1)
+    }
+
+    // Number i of field n: 0 where there are not so many.
+    pub fn number(self, n: usize, i: usize) -> usize {
+        number(self.field(n), i)
+    }
+
+    // Field n as the words of a table: none where it has more than N.
+    pub fn table<const N: usize>(self, n: usize) -> ArrayVec<u32, N> {
+        let field = self.field(n);
+        let mut table = ArrayVec::new();
+        if field.is_empty() {
+            return table;
         }
-        i += 1;
-    }
-    found
-}
-
-// Line n of all.
-pub fn line(lines: &[u8], n: usize) -> &[u8] {
-    part(lines, b'\n', n)
-}
-
-// How many lines have their end.
-pub fn lines_in(lines: &[u8]) -> usize {
-    marks(lines, b'\n')
-}
-
-// Field n of a line.
-pub fn field(line: &[u8], n: usize) -> &[u8] {
-    part(line, b'|', n)
-}
-
-// Which of the names, each closed by a bar, a word is: as many as they are where it is none of them.
-pub fn which(word: &[u8], names: &[u8]) -> usize {
-    let there = marks(names, b'|');
-    let mut n: usize = 0;
-    while n < there {
-        if octets::same_bytes(word, field(names, n)) {
-            return n;
+        for digits in field.split(|b| *b == b' ') {
+            let word = (decimal(digits) & 0xffff_ffff) as u32;
+            if table.try_push(word).is_err() {
+                return ArrayVec::new();
+            }
         }
-        n += 1;
+        table
     }
-    n
+
+    // The three tables whose words stand in the fields from the fifth on.
+    pub fn words<const N: usize>(self) -> Words<N> {
+        Words {
+            components: self.table(4),
+            properties: self.table(5),
+            parameters: self.table(6),
+        }
+    }
+
+    // Three tables of as many words as the numbers of the fourth field from number i on say.
+    pub fn zeros<const N: usize>(self, i: usize) -> Words<N> {
+        Words {
+            components: zeros(self.number(3, i)),
+            properties: zeros(self.number(3, i.saturating_add(1))),
+            parameters: zeros(self.number(3, i.saturating_add(2))),
+        }
+    }
 }
 
-// The first field of a line is the call, and the second the name of the case.
-pub fn say_name(rt: &impl Print, line: &[u8]) -> io::Result<()> {
-    say(rt, field(line, 1))?;
-    say(rt, b":")
+fn zeros<const N: usize>(count: usize) -> ArrayVec<u32, N> {
+    let mut table = ArrayVec::from([0; N]);
+    table.truncate(count);
+    table
+}
+
+// The words of three tables, at most N of each.
+#[derive(Drop)]
+pub struct Words<const N: usize> {
+    components: ArrayVec<u32, N>,
+    properties: ArrayVec<u32, N>,
+    parameters: ArrayVec<u32, N>,
+}
+
+impl<const N: usize> Words<N> {
+    // They and a text.
+    pub fn tables<'a>(&'a self, text: &'a [u8]) -> Tables<'a> {
+        Tables {
+            text,
+            components: self.components.as_slice(),
+            properties: self.properties.as_slice(),
+            parameters: self.parameters.as_slice(),
+        }
+    }
+
+    pub fn room(&mut self) -> Room<'_> {
+        Room {
+            components: self.components.as_mut_slice(),
+            properties: self.properties.as_mut_slice(),
+            parameters: self.parameters.as_mut_slice(),
+        }
+    }
+}
+
+// The number that decimal digits make. It wraps, and so does a byte that is no digit.
+fn decimal(digits: &[u8]) -> usize {
+    digits
+        .iter()
+        .fold(0usize, |value, digit| shifted(value, *digit))
 }
 
 // Ten times the value, and one digit more.
 fn shifted(value: usize, digit: u8) -> usize {
-    let two = std::num::wrapping_add_usize(value, value);
-    let four = std::num::wrapping_add_usize(two, two);
-    let ten = std::num::wrapping_add_usize(std::num::wrapping_add_usize(four, four), two);
-    std::num::wrapping_add_usize(ten, std::num::wrapping_sub_usize(digit as usize, 48))
+    value
+        .wrapping_mul(10)
+        .wrapping_add(usize::from(digit))
+        .wrapping_sub(usize::from(b'0'))
 }
 
-// How far the bytes of a field are laid, and the number that has begun, if one has.
-#[derive(Clone, Copy)]
-struct Laid {
-    end: usize,
-    inside: bool,
-    number: usize,
-}
-
-fn lay_next(laid: Laid, b: u8, out: &mut [u8]) -> Laid {
-    if b == b'<' {
-        return Laid {
-            end: laid.end,
-            inside: true,
-            number: 0,
-        };
-    }
-    if b == b'>' {
-        return Laid {
-            end: octets::lay(&[(laid.number % 256) as u8], out, laid.end),
-            inside: false,
-            number: 0,
-        };
-    }
-    if laid.inside {
-        return Laid {
-            end: laid.end,
-            inside: true,
-            number: shifted(laid.number, b),
-        };
-    }
-    Laid {
-        end: octets::lay(&[b], out, laid.end),
-        inside: false,
-        number: 0,
-    }
+// Number i of those that stand with a space between two: 0 where there are not so many.
+pub fn number(numbers: &[u8], i: usize) -> usize {
+    numbers.split(|b| *b == b' ').nth(i).map_or(0, decimal)
 }
 
 // Lays the bytes of a field, and counts them.
 pub fn lay_bytes(field: &[u8], out: &mut [u8]) -> usize {
-    let mut laid = Laid {
-        end: 0,
-        inside: false,
-        number: 0,
-    };
-    let mut i: usize = 0;
-    while i < field.len() {
-        laid = lay_next(laid, field[i], out);
-        i += 1;
-    }
-    laid.end
-}
-
-// Number n of a field.
-pub fn number(field: &[u8], n: usize) -> usize {
-    let mut value: usize = 0;
-    let mut left = n;
-    let mut i: usize = 0;
-    while i < field.len() {
-        let b = field[i];
-        if b == b' ' {
-            if left == 0 {
-                return value;
+    let mut end = 0;
+    // The number that has begun, if one has.
+    let mut open: Option<usize> = None;
+    for b in field {
+        match (*b, open) {
+            (b'<', _) => open = Some(0),
+            (b'>', _) => {
+                end = octets::lay_byte((open.unwrap_or(0) & 0xff) as u8, out, end);
+                open = None;
             }
-            left -= 1;
-        } else if left == 0 {
-            value = shifted(value, b);
+            (digit, Some(number)) => open = Some(shifted(number, digit)),
+            (other, None) => end = octets::lay_byte(other, out, end),
         }
-        i += 1;
     }
-    value
-}
-
-// How many numbers a field has.
-fn count(field: &[u8]) -> usize {
-    if field.len() == 0 {
-        return 0;
-    }
-    octets::count_on(marks(field, b' '), 1)
-}
-
-// Puts the numbers of a field into the words of a table, and tells how many they are.
-pub fn lay_words(field: &[u8], table: &mut [u32]) -> usize {
-    let mut i: usize = 0;
-    while i < table.len() {
-        table[i] = (number(field, i) % 4_294_967_296) as u32;
-        i += 1;
-    }
-    count(field)
-}
-
-// The first so many words of a table; none where there are not so many.
-pub fn front(table: &[u32], count: usize) -> &[u32] {
-    if table.len() < count {
-        return &table[0..0];
-    }
-    &table[0..count]
+    end
 }

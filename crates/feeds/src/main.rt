@@ -24,11 +24,19 @@ fn list_file(rt: &(impl Files + Print + Eprint), name: &str) -> io::Result<()> {
     }
 }
 
+// One for each program.
+const NAMES: [&str; 6] = [
+    "booking.ics",
+    "outlook.ics",
+    "google.ics",
+    "apple.ics",
+    "thunderbird.ics",
+    "relayed.ics",
+];
+
 fn main(rt: HostRuntime) -> io::Result<()> {
-    list_file(&rt, "booking.ics")?;
-    list_file(&rt, "outlook.ics")?;
-    list_file(&rt, "google.ics")?;
-    list_file(&rt, "apple.ics")?;
-    list_file(&rt, "thunderbird.ics")?;
-    list_file(&rt, "relayed.ics")
+    for name in NAMES {
+        list_file(&rt, name)?;
+    }
+    Ok(())
 }

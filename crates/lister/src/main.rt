@@ -2,15 +2,6 @@
 #![tactic(auto)]
 
 use std::io;
-use std::io::Read;
-
-// Reads until the feed is full or the input ends, and counts the bytes.
-fn read_input(input: &mut impl Read, feed: &mut [u8]) -> io::Result<usize> {
-    let most = feed.len() as u64;
-    let mut rest = feed;
-    let count = io::copy(&mut input.take(most), &mut rest)?;
-    Ok(count as usize)
-}
 
 // A listing always fits, so that what is printed is all of it.
 fn print_listing(rt: &(impl Print + Eprint), feed: &[u8]) -> io::Result<()> {
@@ -25,7 +16,7 @@ fn print_listing(rt: &(impl Print + Eprint), feed: &[u8]) -> io::Result<()> {
 fn main(rt: HostRuntime) -> io::Result<()> {
     // One byte more than is listed shows that there is more.
     let mut feed = [0u8; listing::LONGEST + 1];
-    let input = read_input(&mut rt.stdin(), &mut feed);
+    let input = trial::read_full(&mut rt.stdin(), &mut feed);
     if let Ok(n) = input {
         print_listing(&rt, octets::view(&feed, 0, n))
     } else {

@@ -1,9 +1,12 @@
-// What the programs that run examples share: reading the input, saying what came out, and making feeds of a size.
+// What the programs that run examples share: reading the input, printing what was answered, the tables, and feeds of a size.
 #![tactic(auto)]
 
+ghost use Rattle.std.specs.Prelude.{◌+◌, ◌<◌};
+
+use octets::Output;
 use reading::Reading;
-use std::io;
 use std::io::Read;
+use std::{fmt, io};
 use tables::ComponentRow;
 
 // Reads until the buffer is full or the input ends, and counts the bytes.
@@ -14,37 +17,130 @@ pub fn read_full(input: &mut impl Read, out: &mut [u8]) -> io::Result<usize> {
     Ok(count as usize)
 }
 
-pub fn say(rt: &impl Print, words: &[u8]) -> io::Result<()> {
-    rt.write_all(words)
+// Bytes that need not be text.
+pub fn say(rt: &impl Print, bytes: &[u8]) -> io::Result<()> {
+    rt.write_all(bytes)
 }
 
-// A space and a number.
-pub fn say_number(rt: &impl Print, n: usize) -> io::Result<()> {
-    print!(rt; " {n}")
+// Prints numbers with a space before each.
+#[derive(Clone, Copy)]
+pub struct Numbers<T>(pub T);
+
+impl fmt::Display for Numbers<&[u32]> {
+    fn fmt<W: fmt::Write>(&self, f: &mut fmt::Formatter<W>) -> fmt::Result {
+        for number in self.0 {
+            write!(f, " {number}")?;
+        }
+        Ok(())
+    }
 }
 
-// The six numbers of a reading.
-pub fn say_six(rt: &impl Print, r: Reading) -> io::Result<()> {
-    say_number(rt, r.answer as usize)?;
-    say_number(rt, r.place)?;
-    say_number(rt, r.length)?;
-    say_number(rt, r.components)?;
-    say_number(rt, r.properties)?;
-    say_number(rt, r.parameters)
+impl fmt::Display for Numbers<Output> {
+    fn fmt<W: fmt::Write>(&self, f: &mut fmt::Formatter<W>) -> fmt::Result {
+        let Output {
+            answer,
+            place,
+            length,
+        } = self.0;
+        write!(f, " {answer} {place} {length}")
+    }
 }
 
-// They and the end of the line.
-pub fn say_reading(rt: &impl Print, r: Reading) -> io::Result<()> {
-    say_six(rt, r)?;
-    say(rt, b"\n")
+impl fmt::Display for Numbers<Reading> {
+    fn fmt<W: fmt::Write>(&self, f: &mut fmt::Formatter<W>) -> fmt::Result {
+        let Reading {
+            answer,
+            place,
+            length,
+            components,
+            properties,
+            parameters,
+        } = self.0;
+        write!(
+            f,
+            " {answer} {place} {length} {components} {properties} {parameters}"
+        )
+    }
+}
+
+// What a reading fills, and the writer and the twin test look at.
+#[derive(Clone, Copy)]
+pub struct Tables<'a> {
+    pub text: &'a [u8],
+    pub components: &'a [u32],
+    pub properties: &'a [u32],
+    pub parameters: &'a [u32],
+}
+
+// The rows of the three tables, lent to be filled.
+#[derive(Drop)]
+pub struct Room<'a> {
+    pub components: &'a mut [u32],
+    pub properties: &'a mut [u32],
+    pub parameters: &'a mut [u32],
+}
+
+impl Room<'_> {
+    pub fn read(&mut self, feed: &[u8], text: &mut [u8]) -> Reading {
+        reading::read_components(
+            feed,
+            text,
+            self.components,
+            self.properties,
+            self.parameters,
+        )
+    }
+
+    pub fn fill(&mut self, text: &[u8]) -> Reading {
+        reading::fill_components(text, self.components, self.properties, self.parameters)
+    }
+
+    // What a reading left in a text and here: nothing where it was refused.
+    pub fn tables<'a>(&'a self, done: Reading, text: &'a [u8]) -> Option<Tables<'a>> {
+        if done.answer != octets::DONE {
+            return None;
+        }
+        Some(Tables {
+            text: octets::view(text, 0, done.length),
+            components: rows(self.components, done.components, tables::COMPONENT_WORDS),
+            properties: rows(self.properties, done.properties, tables::PROPERTY_WORDS),
+            parameters: rows(self.parameters, done.parameters, tables::PARAMETER_WORDS),
+        })
+    }
+}
+
+// The first rows of a table, of so many words each: all of it where it has fewer.
+fn rows(table: &[u32], count: usize, words: usize) -> &[u32] {
+    let end = count.saturating_mul(words).min(table.len());
+    &table[..end]
+}
+
+// Reads a feed into buffers of these sizes: the bytes of the text, and the words of the three tables.
+pub fn read_into<
+    const TEXT: usize,
+    const COMPONENTS: usize,
+    const PROPERTIES: usize,
+    const PARAMETERS: usize,
+>(feed: &[u8]) -> Reading
+    requires { TEXT + COMPONENTS + PROPERTIES + PARAMETERS < 65_536 }
+{
+    let mut text = [0u8; TEXT];
+    let mut components = [0u32; COMPONENTS];
+    let mut properties = [0u32; PROPERTIES];
+    let mut parameters = [0u32; PARAMETERS];
+    reading::read_components(
+        feed,
+        &mut text,
+        &mut components,
+        &mut properties,
+        &mut parameters,
+    )
 }
 
 // Lays the words so many times, and counts the bytes.
 pub fn repeat(words: &[u8], times: usize, out: &mut [u8], at: usize) -> usize {
     let mut to = at;
-    let mut left = times;
-    while left > 0 {
-        left -= 1;
+    for _ in 0..times {
         to = octets::lay(words, out, to);
     }
     to
@@ -56,75 +152,52 @@ fn nest(depth: usize, out: &mut [u8]) -> usize {
     repeat(b"END:A\n", depth, out, inner)
 }
 
-// Lays the rows of so many components inside each other.
-pub fn nest_rows(depth: u32, table: &mut [u32]) {
-    let mut parent = tables::NO_PARENT;
-    let mut row: u32 = 0;
-    while row < depth {
+// The rows of so many components inside each other: one more than is read at the most.
+pub fn nest_rows(depth: usize, table: &mut [u32]) -> &[u32] {
+    let depth = depth.min(octets::DEEPEST + 1);
+    for row in 0..depth as u32 {
         let c = ComponentRow {
-            parent,
+            parent: row.checked_sub(1).unwrap_or(tables::NO_PARENT),
             depth: row + 1,
             name_start: 0,
             name_len: 1,
         };
         tables::put_component(table, row as usize, c);
-        parent = row;
-        row += 1;
     }
+    rows(table, depth, tables::COMPONENT_WORDS)
 }
 
-// Reads so many components inside each other, into rows for one more than is read.
-pub fn read_nested(rt: &impl Print, depth: usize) -> io::Result<()> {
+// The words of rows for one component more than is read.
+const DEEP_WORDS: usize = tables::COMPONENT_WORDS * (octets::DEEPEST + 1);
+
+// Reads so many components inside each other.
+pub fn read_nested(depth: usize) -> Reading {
     let mut feed = [0u8; 1024];
     let n = nest(depth, &mut feed);
-    let mut text = [0u8; 1024];
-    let mut components = [0u32; 4 * (octets::DEEPEST + 1)];
-    let mut properties = [0u32; 0];
-    let mut parameters = [0u32; 0];
-    let r = reading::read_components(
-        octets::view(&feed, 0, n),
-        &mut text,
-        &mut components,
-        &mut properties,
-        &mut parameters,
-    );
-    say_reading(rt, r)
+    read_into::<1024, DEEP_WORDS, 0, 0>(octets::view(&feed, 0, n))
 }
 
 // A feed of so many bytes: a component with one property, whose value is what stood in the buffer.
 fn stretch(size: usize, out: &mut [u8]) {
     octets::put(b"BEGIN:A\nK:", out);
     let end = b"\nEND:A\n";
-    if size < end.len() {
-        return;
+    if let Some(at) = size.checked_sub(end.len()) {
+        octets::lay(end, out, at);
     }
-    octets::lay(end, out, size - end.len());
 }
 
 // One byte more than is read.
 pub const OVER: usize = octets::LONGEST + 1;
 
-fn read_front(rt: &impl Print, feed: &[u8], text: &mut [u8]) -> io::Result<()> {
-    let mut components = [0u32; 4];
-    let mut properties = [0u32; 5];
-    let mut parameters = [0u32; 0];
-    let r = reading::read_components(
-        feed,
-        text,
-        &mut components,
-        &mut properties,
-        &mut parameters,
-    );
-    say_reading(rt, r)
+// Reads a feed into rows for a component and a property.
+pub fn read_front(feed: &[u8], text: &mut [u8]) -> Reading {
+    let mut components = [0u32; tables::COMPONENT_WORDS];
+    let mut properties = [0u32; tables::PROPERTY_WORDS];
+    reading::read_components(feed, text, &mut components, &mut properties, &mut [])
 }
 
 // Reads a feed of so many bytes. An array of this size is lent as a slice only by way of a function that takes the array.
-pub fn read_long(
-    rt: &impl Print,
-    size: usize,
-    feed: &mut [u8; OVER],
-    text: &mut [u8; OVER],
-) -> io::Result<()> {
+pub fn read_long(size: usize, feed: &mut [u8; OVER], text: &mut [u8; OVER]) -> Reading {
     stretch(size, feed);
-    read_front(rt, octets::view(feed, 0, size), text)
+    read_front(octets::view(feed, 0, size), text)
 }

@@ -3,11 +3,11 @@
 // a feed or a text, and row numbers.
 #![tactic(auto)]
 
-use cases::fields::{field, front, lay_bytes, lay_words, line, lines_in, number, say_name, which};
-use cases::lent::say_three;
+use cases::fields::{Case, lay_bytes, number};
 use std::io;
 use tables::ParameterRow;
-use trial::{read_full, say};
+use trial::{OVER, Room, Tables};
+use twins::Compared;
 
 // Room for all lines.
 const LINES: usize = 65_536;
@@ -17,109 +17,54 @@ const BYTES: usize = 512;
 
 const WORDS: usize = 36;
 
-fn count(
-    rt: &impl Print,
-    text: &[u8],
-    components: &[u32],
-    properties: &[u32],
-    parameters: &[u32],
-    row: usize,
-) -> io::Result<()> {
-    let told = neighbours::count_neighbours(text, components, properties, parameters, row);
-    say_three(rt, told.answer, told.place, told.twins)
-}
-
-fn compare(
-    rt: &impl Print,
-    text: &[u8],
-    components: &[u32],
-    properties: &[u32],
-    parameters: &[u32],
-    row: usize,
-    other: usize,
-) -> io::Result<()> {
-    let told = twins::compare_twins(text, components, properties, parameters, row, other);
-    say_three(rt, told.answer, told.place, told.twins as usize)
-}
-
-fn compare_loosely(
-    rt: &impl Print,
-    text: &[u8],
-    components: &[u32],
-    properties: &[u32],
-    parameters: &[u32],
-    row: usize,
-    other: usize,
-) -> io::Result<()> {
-    let told = twins::compare_loose_twins(text, components, properties, parameters, row, other);
-    say_three(rt, told.answer, told.place, told.twins as usize)
-}
-
 // The count of neighbours, or the looser test, for the calls of these names; else the twin test. The fourth field has the row numbers.
-fn ask(
-    rt: &impl Print,
-    case: &[u8],
-    text: &[u8],
-    components: &[u32],
-    properties: &[u32],
-    parameters: &[u32],
-) -> io::Result<()> {
-    let rows = field(case, 3);
-    let row = number(rows, 0);
-    let other = number(rows, 1);
-    let asked = which(
-        field(case, 0),
-        b"neighbours|loose twins|loose feed|loose long|",
-    );
-    match asked {
-        0 => count(rt, text, components, properties, parameters, row),
-        1 | 2 | 3 => compare_loosely(rt, text, components, properties, parameters, row, other),
-        _ => compare(rt, text, components, properties, parameters, row, other),
+fn ask(rt: &impl Print, case: Case, t: Tables) -> io::Result<()> {
+    let row = case.number(3, 0);
+    match case.call() {
+        b"neighbours" => {
+            let told = neighbours::count_neighbours(
+                t.text,
+                t.components,
+                t.properties,
+                t.parameters,
+                row,
+            );
+            print!(rt; " {} {} {}", told.answer, told.place, told.twins)
+        }
+        call => {
+            let told = compare(call, t, row, case.number(3, 1));
+            print!(rt; " {} {} {}", told.answer, told.place, told.twins)
+        }
+    }
+}
+
+fn compare(call: &[u8], t: Tables, row: usize, other: usize) -> Compared {
+    match call {
+        b"loose twins" | b"loose feed" | b"loose long" => {
+            twins::compare_loose_twins(t.text, t.components, t.properties, t.parameters, row, other)
+        }
+        _ => twins::compare_twins(t.text, t.components, t.properties, t.parameters, row, other),
     }
 }
 
 // Behind the row numbers stand the words of the three tables.
-fn ask_tables(rt: &impl Print, case: &[u8], text: &[u8]) -> io::Result<()> {
-    let mut components = [0u32; WORDS];
-    let mut properties = [0u32; WORDS];
-    let mut parameters = [0u32; WORDS];
-    let c = lay_words(field(case, 4), &mut components);
-    let p = lay_words(field(case, 5), &mut properties);
-    let q = lay_words(field(case, 6), &mut parameters);
-    ask(
-        rt,
-        case,
-        text,
-        front(&components, c),
-        front(&properties, p),
-        front(&parameters, q),
-    )
+fn ask_tables(rt: &impl Print, case: Case, text: &[u8]) -> io::Result<()> {
+    ask(rt, case, case.words::<WORDS>().tables(text))
 }
 
 // Reads a feed and asks of its rows. The text and the tables are cut to what the reading tells.
-fn ask_feed(rt: &impl Print, case: &[u8], feed: &[u8]) -> io::Result<()> {
+fn ask_feed(rt: &impl Print, case: Case, feed: &[u8]) -> io::Result<()> {
     let mut text = [0u8; 2048];
-    let mut components = [0u32; 600];
-    let mut properties = [0u32; 60];
-    let mut parameters = [0u32; 60];
-    let told = reading::read_components(
-        feed,
-        &mut text,
-        &mut components,
-        &mut properties,
-        &mut parameters,
-    );
-    if told.answer != octets::DONE {
-        return say(rt, b" NOT READ");
+    let mut room = Room {
+        components: &mut [0; 600],
+        properties: &mut [0; 60],
+        parameters: &mut [0; 60],
+    };
+    let done = room.read(feed, &mut text);
+    match room.tables(done, &text) {
+        Some(tables) => ask(rt, case, tables),
+        None => print!(rt; " NOT READ"),
     }
-    ask(
-        rt,
-        case,
-        octets::view(&text, 0, told.length),
-        canonical::component_part(told.components, &components),
-        canonical::property_part(told.properties, &properties),
-        canonical::parameter_part(told.parameters, &parameters),
-    )
 }
 
 // Lays 64 components inside each other, the innermost with one property.
@@ -130,7 +75,7 @@ fn nest(line: &[u8], feed: &mut [u8], at: usize) -> usize {
 }
 
 // Asks of two such, one behind the other. The third field has the property of the second.
-fn ask_nested(rt: &impl Print, case: &[u8], line: &[u8]) -> io::Result<()> {
+fn ask_nested(rt: &impl Print, case: Case, line: &[u8]) -> io::Result<()> {
     let mut feed = [0u8; 2048];
     let middle = nest(b"K:v\n", &mut feed, 0);
     let end = nest(line, &mut feed, middle);
@@ -138,27 +83,22 @@ fn ask_nested(rt: &impl Print, case: &[u8], line: &[u8]) -> io::Result<()> {
 }
 
 // Asks of the rows of 65 components inside each other.
-fn ask_65(rt: &impl Print, case: &[u8]) -> io::Result<()> {
+fn ask_65(rt: &impl Print, case: Case) -> io::Result<()> {
     let mut components = [0u32; 260];
-    let none = [0u32; 0];
-    trial::nest_rows(65, &mut components);
-    ask(rt, case, b"A", &components, &none, &none)
+    let nested = Tables {
+        text: b"A",
+        components: trial::nest_rows(65, &mut components),
+        properties: &[],
+        parameters: &[],
+    };
+    ask(rt, case, nested)
 }
 
-// Asks of tables whose text has these bytes in front and is one byte longer than a value that is read.
-fn ask_lent(
-    rt: &impl Print,
-    case: &[u8],
-    bytes: &[u8],
-    text: &mut [u8; trial::OVER],
-) -> io::Result<()> {
+// Asks of tables whose text has these bytes in front and is one byte longer than a value that is read. An array of this size is lent as a slice only by way
+// of a function that takes the array.
+fn ask_lent(rt: &impl Print, case: Case, bytes: &[u8], text: &mut [u8; OVER]) -> io::Result<()> {
     octets::lay(bytes, text, 0);
     ask_tables(rt, case, text)
-}
-
-fn ask_long(rt: &impl Print, case: &[u8], bytes: &[u8]) -> io::Result<()> {
-    let mut text = [b'a'; trial::OVER];
-    ask_lent(rt, case, bytes, &mut text)
 }
 
 // How many parameters a property of a crowd has: more than the rows of one shelf (crates/sifting).
@@ -178,71 +118,48 @@ fn as_long(property: u32, length: u32) -> ParameterRow {
 
 // Lays the parameters of two properties, those of the second backwards.
 fn lay_crowd(parameters: &mut [u32]) {
-    let mut n: u32 = 0;
-    while n < CROWD {
+    for n in 0..CROWD {
         tables::put_parameter(parameters, n as usize, as_long(0, n));
         tables::put_parameter(parameters, (CROWD + n) as usize, as_long(1, CROWD - 1 - n));
-        n += 1;
     }
 }
 
 // Asks of two components with such properties. The third field has a row, and how long its value is instead.
-fn ask_lent_crowd(
-    rt: &impl Print,
-    case: &[u8],
-    change: &[u8],
-    text: &[u8; 2000],
-    parameters: &mut [u32; 24_000],
-) -> io::Result<()> {
-    lay_crowd(parameters);
-    let mut changed = [0u32; 2];
-    lay_words(change, &mut changed);
-    tables::put_parameter(parameters, number(change, 0), as_long(1, changed[1]));
-    let components = [tables::NO_PARENT, 1, 0, 1, tables::NO_PARENT, 1, 0, 1];
-    let properties = [0u32, 0, 1, 0, 1, 1, 0, 1, 0, 1];
-    ask(rt, case, text, &components, &properties, parameters)
-}
-
-fn ask_crowd(rt: &impl Print, case: &[u8], change: &[u8]) -> io::Result<()> {
-    let text = [b'P'; 2000];
+fn ask_crowd(rt: &impl Print, case: Case, change: &[u8]) -> io::Result<()> {
     let mut parameters = [0u32; 24_000];
-    ask_lent_crowd(rt, case, change, &text, &mut parameters)
+    lay_crowd(&mut parameters);
+    let length = (number(change, 1) & 0xffff_ffff) as u32;
+    tables::put_parameter(&mut parameters, number(change, 0), as_long(1, length));
+    let crowded = Tables {
+        text: &[b'P'; 2000],
+        components: &[tables::NO_PARENT, 1, 0, 1, tables::NO_PARENT, 1, 0, 1],
+        properties: &[0, 0, 1, 0, 1, 1, 0, 1, 0, 1],
+        parameters: &parameters,
+    };
+    ask(rt, case, crowded)
 }
 
 // The call on these bytes.
-fn call(rt: &impl Print, case: &[u8], bytes: &[u8]) -> io::Result<()> {
-    let call = which(
-        field(case, 0),
-        b"twins|neighbours|loose twins|feed|loose feed|nested|65 levels|long|loose long|crowd|",
-    );
-    match call {
-        0 | 1 | 2 => ask_tables(rt, case, bytes),
-        3 | 4 => ask_feed(rt, case, bytes),
-        5 => ask_nested(rt, case, bytes),
-        6 => ask_65(rt, case),
-        7 | 8 => ask_long(rt, case, bytes),
-        9 => ask_crowd(rt, case, bytes),
-        _ => say(rt, b" NO SUCH CALL"),
+fn call(rt: &impl Print, case: Case, bytes: &[u8]) -> io::Result<()> {
+    match case.call() {
+        b"twins" | b"neighbours" | b"loose twins" => ask_tables(rt, case, bytes),
+        b"feed" | b"loose feed" => ask_feed(rt, case, bytes),
+        b"nested" => ask_nested(rt, case, bytes),
+        b"65 levels" => ask_65(rt, case),
+        b"long" | b"loose long" => ask_lent(rt, case, bytes, &mut [b'a'; OVER]),
+        b"crowd" => ask_crowd(rt, case, bytes),
+        _ => print!(rt; " NO SUCH CALL"),
     }
 }
 
-fn run(rt: &impl Print, case: &[u8]) -> io::Result<()> {
+fn run(rt: &impl Print, case: Case) -> io::Result<()> {
     let mut bytes = [0u8; BYTES];
-    let n = lay_bytes(field(case, 2), &mut bytes);
-    say_name(rt, case)?;
+    let n = lay_bytes(case.field(2), &mut bytes);
+    cases::say_name(rt, case)?;
     call(rt, case, octets::view(&bytes, 0, n))?;
-    say(rt, b"\n")
-}
-
-fn run_all(rt: &impl Print, lines: &[u8]) -> io::Result<()> {
-    for n in 0..lines_in(lines) {
-        run(rt, line(lines, n))?;
-    }
-    Ok(())
+    println!(rt; "")
 }
 
 fn main(rt: HostRuntime) -> io::Result<()> {
-    let mut lines = [0u8; LINES];
-    let n = read_full(&mut rt.stdin(), &mut lines)?;
-    run_all(&rt, octets::view(&lines, 0, n))
+    cases::run_all::<LINES, _>(&mut rt.stdin(), |case| run(&rt, case))
 }
