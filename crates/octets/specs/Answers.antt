@@ -3,6 +3,7 @@
 use Rattle.std.specs.Prelude.{ℕ, List, eqb, leb}
 use Rattle.octets.specs.Choice.{pick}
 use Rattle.octets.specs.Laid.{laid}
+use Rattle.octets.specs.declared.Answer.{Answer}
 use Rattle.octets.specs.declared.Output.{Output}
 
 abbrev pub longest : ℕ
@@ -74,6 +75,29 @@ stray_byte = 18
 -- document 02, request 4: in the strict fold and the writer, in the place of 12
 abbrev pub not_utf8 : ℕ
 not_utf8 = 19
+
+-- the number of each answer
+abbrev pub answer_number : Answer → ℕ
+answer_number Answer.Done = done
+answer_number Answer.TooLong = too_long
+answer_number Answer.NoTextRoom = no_text_room
+answer_number Answer.BadBegin = bad_begin
+answer_number Answer.TooDeep = too_deep
+answer_number Answer.BadEnd = bad_end
+answer_number Answer.Outside = outside
+answer_number Answer.EmptyKey = empty_key
+answer_number Answer.Unclosed = unclosed
+answer_number Answer.NoComponent = no_component
+answer_number Answer.NoRoom = no_room
+answer_number Answer.HasBreak = has_break
+answer_number Answer.NotAscii = not_ascii
+answer_number Answer.NoOutRoom = no_out_room
+answer_number Answer.BadTable = bad_table
+answer_number Answer.Unwritable = unwritable
+answer_number Answer.BadEscape = bad_escape
+answer_number Answer.ReservedKey = reserved_key
+answer_number Answer.StrayByte = stray_byte
+answer_number Answer.NotUtf8 = not_utf8
 
 -- the three numbers of a fold, of quoting and of the writer
 abbrev pub output : ℕ → ℕ → ℕ → Output

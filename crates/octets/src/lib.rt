@@ -4,7 +4,7 @@
 ghost use Rattle.std.specs.Prelude.{◌≡◌, ℕ, Bool, ◌<◌, false, ◌∷◌, [], ◌++◌, ◌+◌, ◌≤◌, min, length, get_or, take, drop, eqb, leb, ltb};
 ghost use Rattle.octets.specs.Bytes.{capital, common, key_byte, lowered, other};
 ghost use Rattle.octets.specs.Laid.{laid, counted, Lays};
-ghost use Rattle.octets.specs.Answers.{done, output, room_answer};
+ghost use Rattle.octets.specs.Answers.{answer_number, done, output, room_answer};
 ghost use Rattle.octets.specs.Runs.{run};
 ghost use Rattle.octets.specs.Numbers.{marks, eight};
 ghost use Rattle.octets.specs.Words.{same_bytes, same_word, starts_word};
@@ -18,47 +18,40 @@ pub const LONGEST: usize = 1_048_576;
 // The most components that stand inside each other.
 pub const DEEPEST: usize = 64;
 
-pub const DONE: u32 = 0;
+// What a call answers: Done, or why it refuses. The numbers, from 0 on in this order, are those of the documents and of callers in C.
+#[derive(Clone, Copy)]
+pub enum Answer {
+    Done,
+    TooLong,
+    NoTextRoom,
+    BadBegin,
+    TooDeep,
+    BadEnd,
+    Outside,
+    EmptyKey,
+    Unclosed,
+    NoComponent,
+    NoRoom,
+    HasBreak,
+    NotAscii,
+    NoOutRoom,
+    BadTable,
+    Unwritable,
+    BadEscape,
+    ReservedKey,
+    StrayByte,
+    NotUtf8,
+}
 
-pub const TOO_LONG: u32 = 1;
+impl Answer {
+    pub fn number(self) -> u32
+        ensures { result ≡ answer_number self }
+    {
+        self as u32
+    }
+}
 
-pub const NO_TEXT_ROOM: u32 = 2;
-
-pub const BAD_BEGIN: u32 = 3;
-
-pub const TOO_DEEP: u32 = 4;
-
-pub const BAD_END: u32 = 5;
-
-pub const OUTSIDE: u32 = 6;
-
-pub const EMPTY_KEY: u32 = 7;
-
-pub const UNCLOSED: u32 = 8;
-
-pub const NO_COMPONENT: u32 = 9;
-
-pub const NO_ROOM: u32 = 10;
-
-pub const HAS_BREAK: u32 = 11;
-
-pub const NOT_ASCII: u32 = 12;
-
-pub const NO_OUT_ROOM: u32 = 13;
-
-pub const BAD_TABLE: u32 = 14;
-
-pub const UNWRITABLE: u32 = 15;
-
-pub const BAD_ESCAPE: u32 = 16;
-
-pub const RESERVED_KEY: u32 = 17;
-
-pub const STRAY_BYTE: u32 = 18;
-
-pub const NOT_UTF8: u32 = 19;
-
-// What a fold, quoting or the writer answers: on NO_OUT_ROOM the length is the one needed.
+// What a fold, quoting or the writer answers: on NoOutRoom the length is the one needed.
 #[derive(Clone, Copy)]
 pub struct Output {
     pub answer: u32,
@@ -68,11 +61,11 @@ pub struct Output {
 
 impl Output {
     // A refusal, at the place that it names.
-    pub fn refusal(answer: u32, place: usize) -> Output
-        ensures { result ≡ output answer place 0 }
+    pub fn refusal(answer: Answer, place: usize) -> Output
+        ensures { result ≡ output (answer_number answer) place 0 }
     {
         Output {
-            answer,
+            answer: answer.number(),
             place,
             length: 0,
         }
@@ -83,7 +76,7 @@ impl Output {
         ensures { result ≡ output done 0 length }
     {
         Output {
-            answer: DONE,
+            answer: Answer::Done.number(),
             place: 0,
             length,
         }
@@ -93,7 +86,7 @@ impl Output {
     pub fn is_done(self) -> bool
         ensures { result ≡ eqb self.answer done }
     {
-        self.answer == DONE
+        self.answer == Answer::Done.number()
     }
 }
 
@@ -353,7 +346,7 @@ pub fn room_for(needed: usize, room: usize) -> Output
 {
     if room < needed {
         return Output {
-            answer: NO_OUT_ROOM,
+            answer: Answer::NoOutRoom.number(),
             place: 0,
             length: needed,
         };
