@@ -3,8 +3,8 @@
 
 ghost use Rattle.std.specs.Prelude.{ℕ, ◌<◌};
 
-use octets::{Key, Output, Span};
-use parameters::{Front, Param, Value};
+use octets::{Output, Span};
+use parameters::{Param, Value};
 use tables::{ParameterRow, PropertyRow};
 use trial::{Room, Tables};
 
@@ -68,7 +68,7 @@ impl<'a> Line<'a> {
 
     // `ok` and the bytes that an output left at the front of the text, or `err` where it was refused.
     pub fn output(&mut self, answered: Output, text: &[u8]) {
-        if answered.answer != octets::DONE {
+        if !answered.is_done() {
             return self.refuse();
         }
         self.lay(b"ok ");
@@ -112,15 +112,15 @@ fn lay_unfolded(case: &[u8], text: &mut [u8], line: &mut Line) {
 
 fn lay_key(case: &[u8], line: &mut Line) {
     match octets::property_key(case) {
-        Key::Reserved => line.refuse(),
-        Key::Run(n) => line.count(n),
+        None => line.refuse(),
+        Some(n) => line.count(n),
     }
 }
 
 fn lay_front(case: &[u8], line: &mut Line) {
     match parameters::parameter(case) {
-        Front::NoParameter => line.refuse(),
-        Front::Found(param) => {
+        None => line.refuse(),
+        Some(param) => {
             line.count(param.used);
             line.lay(b" ");
             line.row(0, param);
@@ -135,7 +135,7 @@ fn lay_passed(case: &[u8], line: &mut Line) {
     let mut from: usize = 0;
     for _ in 0..passed.count {
         let start = from.min(case.len());
-        let Front::Found(param) = parameters::parameter(&case[start..]) else {
+        let Some(param) = parameters::parameter(&case[start..]) else {
             return;
         };
         line.lay(b" ; ");

@@ -7,15 +7,15 @@ use native.Mathlib.Omega.{arith}
 use lib.ListN.{length}
 use lib.Dec.{eqb, leb}
 use borrow.Author.Tests.{le-leb, lt-leb, leb-true, leb-false, ne_eqb, eqb-true, eqb-false}
+use Rattle.std.specs.Prelude.{Result, Ok, Err}
 use Rattle.octets.specs.Choice.{pick}
 use Rattle.octets.specs.Answers.{longest, done, too_long, no_text_room, no_room}
 use Rattle.unfolding.specs.Unfold.{unfolded}
-use Rattle.nesting.specs.Steps.{State, Run, finished, stopped, run_of, counts_of, ended_at, judged, outcome_of}
+use Rattle.nesting.specs.Steps.{State, Run, finished, stopped, run_of, counts_of, ended_at, judged, outcome_of, refused_at}
 use Rattle.nesting.specs.declared.Counts.{Counts}
 use Rattle.nesting.specs.declared.Entry.{Entry}
 use Rattle.nesting.specs.declared.Refusal.{Refusal}
-use Rattle.nesting.specs.declared.Outcome.{Outcome}
-use Rattle.nesting.specs.declared.Outcome.TheVariants.{Read, Refused}
+use Rattle.nesting.specs.declared.Refused.{Refused}
 use Rattle.reading.specs.Answers.{number_of, place_of, told, refusal, fits, answered, by_room, read_text, reading_of}
 use Rattle.reading.specs.declared.Reading.{Reading}
 use Rattle.demands.specs.Readable.{Readable}
@@ -56,12 +56,12 @@ module _ (c r : Counts) where
 -- ---- readable feeds
 
 -- a text is read exactly where its run goes to the end, with nothing open there, and a component
-ended_read : (s : State) (size : ℕ) (c : Counts) → ended_at (length s.opens) (counts_of s) size ≡ Read c
+ended_read : (s : State) (size : ℕ) (c : Counts) → ended_at (length s.opens) (counts_of s) size ≡ Ok c
     → (c ≡ counts_of s) × (length s.opens ≡ 0) × (0 < length s.components)
 ended_read s size c e = go (eqb (length s.opens) 0) refl (eqb (length s.components) 0) refl e
   where
     go : (x : Bool) → eqb (length s.opens) 0 ≡ x → (y : Bool) → eqb (length s.components) 0 ≡ y
-        → pick x (pick y (Refused Refusal.NoComponent size) (Read (counts_of s))) (Refused Refusal.Unclosed size) ≡ Read c
+        → pick x (pick y (Err (refused_at Refusal.NoComponent size)) (Ok (counts_of s))) (Err (refused_at Refusal.Unclosed size)) ≡ Ok c
         → (c ≡ counts_of s) × (length s.opens ≡ 0) × (0 < length s.components)
     go true x true y e = absurd (let w : ◌≡◌ {A = ℕ} 0 1 = cc in omega arith)
     go true x false y e = (cc, eqb-true _ _ x, omega (arith, eqb-false (length s.components) 0 y))
@@ -71,18 +71,18 @@ none_open : (es : List Entry) → length es ≡ 0 → es ≡ []
 none_open [] e = refl
 none_open (x ∷ es) e = absurd (omega arith)
 
-pub outcome_readable : (feed : List ℕ) (c : Counts) → length feed ≤ longest → outcome_of (unfolded feed) ≡ Read c
+pub outcome_readable : (feed : List ℕ) (c : Counts) → length feed ≤ longest → outcome_of (unfolded feed) ≡ Ok c
     → (s : State) × Readable feed s × (c ≡ counts_of s)
 unfolding outcome_of
 outcome_readable feed c h e = go (run_of (unfolded feed)) refl e
   where
-    go : (r : Run) → run_of (unfolded feed) ≡ r → judged r (length (unfolded feed)) ≡ Read c → (s : State) × Readable feed s × (c ≡ counts_of s)
+    go : (r : Run) → run_of (unfolded feed) ≡ r → judged r (length (unfolded feed)) ≡ Ok c → (s : State) × Readable feed s × (c ≡ counts_of s)
     go (finished s) x e =
         let w = ended_read s (length (unfolded feed)) c e in
         (s, record { short = h; reads = x; closed = none_open s.opens w.1; some = w.2 }, w.0)
     go (stopped r place) x e = absurd (let w : ◌≡◌ {A = ℕ} 0 1 = cc in omega arith)
 
-pub readable_outcome : {feed : List ℕ} {s : State} → Readable feed s → outcome_of (unfolded feed) ≡ Read (counts_of s)
+pub readable_outcome : {feed : List ℕ} {s : State} → Readable feed s → outcome_of (unfolded feed) ≡ Ok (counts_of s)
 unfolding outcome_of
 readable_outcome {feed} {s} r = rw (r.reads, r.closed, ne_eqb (length s.components) 0 (λ e. omega (arith, r.some)))
 
@@ -93,7 +93,7 @@ pub data Answered (feed : List ℕ) (text_room : ℕ) (room : Counts) : Reading 
   when_no_text_room : length feed ≤ longest → text_room < length (unfolded feed)
       → Answered feed text_room room (refusal no_text_room 0 (length (unfolded feed)))
   not_readable : length feed ≤ longest → length (unfolded feed) ≤ text_room
-      → (r : Refusal) (from : ℕ) → outcome_of (unfolded feed) ≡ Refused r from
+      → (r : Refusal) (from : ℕ) → outcome_of (unfolded feed) ≡ Err (refused_at r from)
       → Answered feed text_room room (refusal (number_of r) (place_of r from) (length (unfolded feed)))
   when_no_room : (s : State) → Readable feed s → length (unfolded feed) ≤ text_room → Exceeds (counts_of s) room
       → Answered feed text_room room (told no_room 0 (length (unfolded feed)) (counts_of s))
@@ -109,11 +109,11 @@ module _ (feed : List ℕ) (text_room : ℕ) (room : Counts) where
       of_read s r true e = all_read s r t (fitting (counts_of s) room e)
       of_read s r false e = when_no_room s r t (exceeding (counts_of s) room e)
 
-      go : (o : Outcome) → outcome_of (unfolded feed) ≡ o → Answered feed text_room room (answered o (length (unfolded feed)) (by_room room))
-      go (Read c) e =
+      go : (o : Result Counts Refused) → outcome_of (unfolded feed) ≡ o → Answered feed text_room room (answered o (length (unfolded feed)) (by_room room))
+      go (Ok c) e =
           let w = outcome_readable feed c h e in
           rw w.2 (of_read w.0 w.1 (fits (counts_of w.0) room) refl)
-      go (Refused r from) e = not_readable h t r from e
+      go (Err x) e = not_readable h t x.refusal x.from e
 
   -- every reading is one of the five
   pub cases : Answered feed text_room room (reading_of feed text_room room)

@@ -11,6 +11,7 @@ use native.Mathlib.Omega.{arith}
 use lib.ListN.{length}
 use lib.Dec.{leb}
 use borrow.Author.Tests.{le-leb, leb-true}
+use Rattle.std.specs.Prelude.{Result, Ok, Err}
 use Rattle.octets.specs.Choice.{pick}
 use Rattle.octets.specs.Laid.{laid}
 use Rattle.octets.specs.Answers.{longest, done, too_long, no_text_room, no_room}
@@ -21,8 +22,7 @@ use Rattle.tables.specs.Lent.{Lent, lent}
 use Rattle.tables.proofs.Laws.{Shape, component_shape, property_shape, parameter_shape}
 use Rattle.nesting.specs.Steps.{outcome_of}
 use Rattle.nesting.specs.declared.Counts.{Counts}
-use Rattle.nesting.specs.declared.Outcome.{Outcome}
-use Rattle.nesting.specs.declared.Outcome.TheVariants.{Read, Refused}
+use Rattle.nesting.specs.declared.Refused.{Refused}
 use Rattle.reading.specs.Answers.{number_of, place_of, told, counts_in, refusal, fits, answered, measure_text, measuring_of, filling_of}
 use Rattle.reading.specs.Lent.{room_in, fill_from, left_filled}
 use Rattle.reading.specs.declared.Reading.{Reading}
@@ -45,12 +45,12 @@ case_of : (text : List ℕ) → Case text
 unfolding filling_of
 case_of text = go (leb (length text) longest) refl (outcome_of text) refl
   where
-    go : (t : Bool) → leb (length text) longest ≡ t → (o : Outcome) → outcome_of text ≡ o → Case text
+    go : (t : Bool) → leb (length text) longest ≡ t → (o : Result Counts Refused) → outcome_of text ≡ o → Case text
     go false e o f = refuses too_long 0 0 (λ z. omega arith) (λ z. omega arith) (λ z. omega arith) zero-le (λ room. rw e)
-    go true e (Refused r from) f =
-        let n = refusal_number r in
-        refuses (number_of r) (place_of r from) (length text) (λ z. omega (arith, n)) (λ z. omega (arith, n)) n.1 (le_refl (length text)) (λ room. rw (e, f))
-    go true e (Read counts) f = needs counts (record { short = leb-true _ _ e; reads = f })
+    go true e (Err x) f =
+        let n = refusal_number x.refusal in
+        refuses (number_of x.refusal) (place_of x.refusal x.from) (length text) (λ z. omega (arith, n)) (λ z. omega (arith, n)) n.1 (le_refl (length text)) (λ room. rw (e, f))
+    go true e (Ok counts) f = needs counts (record { short = leb-true _ _ e; reads = f })
 
 module _ {text : List ℕ} {counts : Counts} (w : Needs text counts) (room : Counts) where
   answers : (t : Bool) → fits counts room ≡ t → filling_of text room ≡ told (pick t done no_room) 0 (length text) counts
@@ -170,10 +170,10 @@ module _ (feed text : List ℕ) where
   unfolding measuring_of
   never_ten e = go (leb (length feed) longest) (leb (length (unfolded feed)) (length text)) (outcome_of (unfolded feed)) e
     where
-      go : (t u : Bool) (o : Outcome)
+      go : (t u : Bool) (o : Result Counts Refused)
           → (pick t (pick u (answered o (length (unfolded feed)) (λ counts. done)) (refusal no_text_room 0 (length (unfolded feed)))) (refusal too_long 0 0)).answer ≡ no_room → ⊥
-      go true true (Refused r from) e = (refusal_number r).1 e
-      go true true (Read counts) e = omega arith
+      go true true (Err x) e = (refusal_number x.refusal).1 e
+      go true true (Ok counts) e = omega arith
       go true false o e = omega arith
       go false u o e = omega arith
 

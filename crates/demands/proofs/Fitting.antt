@@ -9,6 +9,7 @@ use native.Mathlib.Omega.{arith}
 use lib.ListN.{length, get_or}
 use lib.Dec.{eqb, leb}
 use borrow.Author.Tests.{leb-true}
+use Rattle.std.specs.Prelude.{Option, Some, None, Result, Ok, Err}
 use Rattle.octets.specs.Choice.{pick}
 use Rattle.octets.specs.Views.{viewed}
 use Rattle.octets.specs.Runs.{only}
@@ -24,13 +25,12 @@ use Rattle.tables.specs.Trees.{Parameter, Trees, none, gather, parameter_of, par
 use Rattle.tables.specs.declared.ComponentRow.{ComponentRow}
 use Rattle.tables.specs.declared.PropertyRow.{PropertyRow}
 use Rattle.tables.specs.declared.ParameterRow.{ParameterRow}
-use Rattle.tables.specs.declared.Found.{Found}
-use Rattle.tables.specs.declared.Found.TheVariants.{Nothing, At}
 use Rattle.writable.specs.WritingRule.{name_fits, key_fits, no_break, value_utf8, verdict, component_verdict, property_verdict, parameter_verdict, judged_by, judged_from, judged_in}
-use Rattle.writable.specs.declared.Verdict.{Verdict}
-use Rattle.writable.specs.declared.Judged.{Judged}
+use Rattle.writable.specs.declared.Fault.{Fault}
+use Rattle.writable.specs.declared.Unfit.{Unfit}
 use Rattle.writing.specs.Answers.{written_in, not_written, by_writing_rule, by_length, write_answer}
 use Rattle.demands.specs.Returning.{fit_parameter, FitProperty, Fit, Shallow}
+use Rattle.demands.proofs.OutRoom.{fault_not_done}
 
 -- ---- rows that are all so, and what is gathered of them
 
@@ -61,19 +61,20 @@ gathered {A} {R} owner_of before so kept step end e owner row (x ∷ xs) a =
 
 -- ---- tables that can be written: every row is fine
 
-fine_fits : (fits whole : Bool) → verdict fits whole ≡ Verdict.Fine → (fits ≡ true) × (whole ≡ true)
+fine_fits : (fits whole : Bool) → verdict fits whole ≡ Ok tt → (fits ≡ true) × (whole ≡ true)
 fine_fits true true e = (refl, refl)
 fine_fits true false e = (refl, cc)
 fine_fits false whole e = (cc, cc)
 
-judged_writable : (v : Verdict) (row : ℕ) (rest : Judged) → judged_by v row rest ≡ Judged.Writable → (v ≡ Verdict.Fine) × (rest ≡ Judged.Writable)
-judged_writable Verdict.Fine row rest e = (refl, e)
-judged_writable Verdict.Unwritable row rest e = (cc, cc)
-judged_writable Verdict.NotUtf8 row rest e = (cc, cc)
+judged_writable : (v : Result (Unit {0}) Fault) (row : ℕ) (rest : Result (Unit {0}) Unfit) → judged_by v row rest ≡ Ok tt
+    → (v ≡ Ok tt) × (rest ≡ Ok tt)
+judged_writable (Ok fine) row rest e = (refl, e)
+judged_writable (Err fault) row rest e = (cc, cc)
 
 -- so are the rows of one table, and those behind it
-all_fine : {A : Type 0} (verdict_of : A → Verdict) (row : ℕ) (xs : List A) (rest : Judged) → judged_from verdict_of row xs rest ≡ Judged.Writable
-    → All (λ (x : A). verdict_of x ≡ Verdict.Fine) xs × (rest ≡ Judged.Writable)
+all_fine : {A : Type 0} (verdict_of : A → Result (Unit {0}) Fault) (row : ℕ) (xs : List A) (rest : Result (Unit {0}) Unfit)
+    → judged_from verdict_of row xs rest ≡ Ok tt
+    → All (λ (x : A). verdict_of x ≡ Ok tt) xs × (rest ≡ Ok tt)
 unfolding All judged_from
 all_fine verdict_of row [] rest e = (tt, e)
 all_fine verdict_of row (x ∷ xs) rest e =
@@ -82,20 +83,20 @@ all_fine verdict_of row (x ∷ xs) rest e =
     ((here.0, later.0), later.1)
 
 abbrev FineComponent : List ℕ → ComponentRow → Type 0
-FineComponent text c = component_verdict text c ≡ Verdict.Fine
+FineComponent text c = component_verdict text c ≡ Ok tt
 
 abbrev FineProperty : List ℕ → PropertyRow → Type 0
-FineProperty text p = property_verdict text p ≡ Verdict.Fine
+FineProperty text p = property_verdict text p ≡ Ok tt
 
 abbrev FineParameter : List ℕ → ParameterRow → Type 0
-FineParameter text p = parameter_verdict text p ≡ Verdict.Fine
+FineParameter text p = parameter_verdict text p ≡ Ok tt
 
 record Fine (b : Lent) : Type 0 where
   of_components : All (FineComponent b.text) (components_in b.components)
   of_properties : All (FineProperty b.text) (properties_in b.properties)
   of_parameters : All (FineParameter b.text) (parameters_in b.parameters)
 
-tables_fine : (b : Lent) → judged_in b ≡ Judged.Writable → Fine b
+tables_fine : (b : Lent) → judged_in b ≡ Ok tt → Fine b
 unfolding judged_in
 tables_fine b e =
     let cs = all_fine (component_verdict b.text) 0 (components_in b.components) _ e in
@@ -172,7 +173,7 @@ module _ (b : Lent) (fine : Fine b) where
 
 module _ (b : Lent) where
   -- all trees of tables that can be written fit, and so does the tree of each row
-  module _ (writable : judged_in b ≡ Judged.Writable) where
+  module _ (writable : judged_in b ≡ Ok tt) where
     pub accepted_fit : Fit (trees_in b)
     accepted_fit = fit_forest b (tables_fine b writable) deepest no_parent
 
@@ -212,14 +213,13 @@ module _ (b : Lent) where
 
 -- ---- what Done says
 
-by_table_rule_holds : (f : Found) (next : Output) → (by_table_rule not_written f next).answer ≡ done → (f ≡ Nothing) × (next.answer ≡ done)
-by_table_rule_holds Nothing next e = (refl, e)
-by_table_rule_holds (At row) next e = absurd (omega arith)
+by_table_rule_holds : (f : Option ℕ) (next : Output) → (by_table_rule not_written f next).answer ≡ done → (f ≡ None) × (next.answer ≡ done)
+by_table_rule_holds None next e = (refl, e)
+by_table_rule_holds (Some row) next e = absurd (omega arith)
 
-by_writing_rule_holds : (j : Judged) (next : Output) → (by_writing_rule j next).answer ≡ done → (j ≡ Judged.Writable) × (next.answer ≡ done)
-by_writing_rule_holds Judged.Writable next e = (refl, e)
-by_writing_rule_holds (Judged.Unwritable row) next e = absurd (omega arith)
-by_writing_rule_holds (Judged.NotUtf8 row) next e = absurd (omega arith)
+by_writing_rule_holds : (j : Result (Unit {0}) Unfit) (next : Output) → (by_writing_rule j next).answer ≡ done → (j ≡ Ok tt) × (next.answer ≡ done)
+by_writing_rule_holds (Ok fine) next e = (refl, e)
+by_writing_rule_holds (Err unfit) next e = absurd (fault_not_done unfit.fault e)
 
 by_length_holds : (needed room : ℕ) → (by_length needed room).answer ≡ done → (needed ≤ longest) × (needed ≤ room)
 by_length_holds needed room e = go (leb needed longest) refl (leb needed room) refl e
@@ -232,7 +232,7 @@ by_length_holds needed room e = go (leb needed longest) refl (leb needed room) r
 
 -- the tables meet both rules, and their bytes are within the byte limit and the room
 pub accepted : (b : Lent) (room : ℕ) → (write_answer b room).answer ≡ done
-    → (broken_in b ≡ Nothing) × (judged_in b ≡ Judged.Writable) × (length (written_in b) ≤ longest) × (length (written_in b) ≤ room)
+    → (broken_in b ≡ None) × (judged_in b ≡ Ok tt) × (length (written_in b) ≤ longest) × (length (written_in b) ≤ room)
 unfolding write_answer
 accepted b room e =
     let t = by_table_rule_holds (broken_in b) (by_writing_rule (judged_in b) (by_length (length (written_in b)) room)) e in

@@ -10,6 +10,7 @@ use lib.ListN.{length, get_or, length-append}
 use lib.Seq.{get_or-append-add, get_or-append_seam}
 use lib.Dec.{eqb}
 use borrow.Author.Tests.{eqb-true, eqb-false, ne_eqb}
+use Rattle.std.specs.Prelude.{Result, Ok, Err}
 use Rattle.octets.specs.Choice.{pick}
 use Rattle.octets.specs.Answers.{no_text_room, no_room, stray_byte}
 use Rattle.octets.specs.All.{All}
@@ -18,10 +19,8 @@ use Rattle.lines.specs.Split.{Placed, lines_from}
 use Rattle.lines.specs.Rule.{line_of}
 use Rattle.lines.proofs.Rule.{is_empty}
 use Rattle.tables.specs.declared.ComponentRow.{ComponentRow}
-use Rattle.nesting.specs.Steps.{State, nothing, check_of, after, Run, finished, stopped, onward, read_lines, run_of, counts_of, ended_at, judged, outcome_of}
-use Rattle.nesting.specs.declared.Check.{Check}
+use Rattle.nesting.specs.Steps.{State, nothing, check_of, after, Run, finished, stopped, onward, read_lines, run_of, counts_of, ended_at, judged, outcome_of, refused_at}
 use Rattle.nesting.specs.declared.Entry.{Entry}
-use Rattle.nesting.specs.declared.Outcome.TheVariants.{Read, Refused}
 use Rattle.nesting.specs.declared.Refusal.{Refusal}
 use Rattle.tables.specs.Lent.{Lent}
 use Rattle.reading.specs.Answers.{number_of, place_of, refusal}
@@ -122,7 +121,7 @@ module _ (text : List ℕ) where
     last : State
     is : ls ≡ before ++ here ∷ behind
     reads : read_lines text before s ≡ finished last
-    refused : check_of text here.content (line_of here.content) last.opens ≡ Check.Bad x
+    refused : check_of text here.content (line_of here.content) last.opens ≡ Err x
     at : here.start ≡ place
 
   stops : (ls : List Placed) (s : State) (x : Refusal) (place : ℕ) → read_lines text ls s ≡ stopped x place → Stopped ls s x place
@@ -135,9 +134,9 @@ module _ (text : List ℕ) where
       next : State
       next = after l.start l.content (line_of l.content) s
 
-      go : (c : Check) → check_of text l.content (line_of l.content) s.opens ≡ c → onward c l.start (read_lines text ls next) ≡ stopped x place
+      go : (c : Result Unit Refusal) → check_of text l.content (line_of l.content) s.opens ≡ c → onward c l.start (read_lines text ls next) ≡ stopped x place
           → (read_lines text ls next ≡ stopped x place → Stopped ls next x place) → Stopped (l ∷ ls) s x place
-      go Check.Fine c e ih =
+      go (Ok tt) c e ih =
           let w = ih e in
           record {
             before = l ∷ w.before;
@@ -149,9 +148,9 @@ module _ (text : List ℕ) where
             refused = w.refused;
             at = w.at;
           }
-      go (Check.Bad y) c e ih =
+      go (Err y) c e ih =
           let same : y ≡ x = cc in
-          record { before = []; here = l; behind = ls; last = s; is = refl; reads = refl; refused = c ∙ ap Check.Bad same; at = cc }
+          record { before = []; here = l; behind = ls; last = s; is = refl; reads = refl; refused = c ∙ ap Err same; at = cc }
 
   stopped_broken : (x : Refusal) (from : ℕ) → run_of text ≡ stopped x from → Broken text (number_of x) (place_of x from)
   stopped_broken x from e =
@@ -164,21 +163,21 @@ module _ (text : List ℕ) where
   -- ---- what is refused at the end
 
   -- nothing, an Unclosed or a NoComponent by what is open and what there is
-  ended_broken : (s : State) → run_of text ≡ finished s → (x : Refusal) (from : ℕ) → ended_at (length s.opens) (counts_of s) (length text) ≡ Refused x from
+  ended_broken : (s : State) → run_of text ≡ finished s → (x : Refusal) (from : ℕ) → ended_at (length s.opens) (counts_of s) (length text) ≡ Err (refused_at x from)
       → Broken text (number_of x) (place_of x from)
   ended_broken s e x from o = go (eqb (length s.opens) 0) (eqb (length s.components) 0) refl refl o
     where
       b : Begun 0 no_row [] no_rows lines (length s.opens) (innermost text s.opens) (rows s)
       b = begun_from lines all_in s e
 
-      told : {y : Refusal} → Refused y (length text) ≡ Refused x from → Broken text (number_of y) (place_of y (length text)) → Broken text (number_of x) (place_of x from)
+      told : {y : Refusal} → Err (refused_at y (length text)) ≡ Err (refused_at x from) → Broken text (number_of y) (place_of y (length text)) → Broken text (number_of x) (place_of x from)
       told {y} q w =
           let same : y ≡ x = cc in
           let there : length text ≡ from = cc in
           subst (λ (at : ℕ). Broken text (number_of x) (place_of x at)) there (subst (λ (z : Refusal). Broken text (number_of z) (place_of z (length text))) same w)
 
       go : (t u : Bool) → eqb (length s.opens) 0 ≡ t → eqb (length s.components) 0 ≡ u
-          → pick t (pick u (Refused Refusal.NoComponent (length text)) (Read (counts_of s))) (Refused Refusal.Unclosed (length text)) ≡ Refused x from
+          → pick t (pick u (Err (refused_at Refusal.NoComponent (length text))) (Ok (counts_of s))) (Err (refused_at Refusal.Unclosed (length text))) ≡ Err (refused_at x from)
           → Broken text (number_of x) (place_of x from)
       go true true p q o =
           let body = begun_body b (eqb-true (length s.opens) 0 p) in
@@ -208,7 +207,7 @@ module _ (text : List ℕ) where
   record RefusedAs (number place : ℕ) : Type 0 where
     refusal_is : Refusal
     from : ℕ
-    outcome : outcome_of text ≡ Refused refusal_is from
+    outcome : outcome_of text ≡ Err (refused_at refusal_is from)
     number_is : number_of refusal_is ≡ number
     place_is : place_of refusal_is from ≡ place
 
@@ -239,13 +238,13 @@ module _ (text : List ℕ) where
       record { refusal_is = Refusal.NoComponent; from = length text; outcome = outcome_is (run_split l ∙ blank_reads ls nothing b); number_is = refl; place_is = refl }
 
   -- and a text that is refused is broken so by the grammar
-  pub refused_broken : (x : Refusal) (from : ℕ) → outcome_of text ≡ Refused x from → Broken text (number_of x) (place_of x from)
+  pub refused_broken : (x : Refusal) (from : ℕ) → outcome_of text ≡ Err (refused_at x from) → Broken text (number_of x) (place_of x from)
   refused_broken x from o = go (run_of text) refl
     where
       go : (r : Run) → run_of text ≡ r → Broken text (number_of x) (place_of x from)
       go (finished s) e = ended_broken s e x from (sym (outcome_is e) ∙ o)
       go (stopped y at) e =
-          let q : Refused y at ≡ Refused x from = sym (outcome_is e) ∙ o in
+          let q : Err (refused_at y at) ≡ Err (refused_at x from) = sym (outcome_is e) ∙ o in
           let same : y ≡ x = cc in
           let there : at ≡ from = cc in
           stopped_broken x from (rw (same, there) at e)

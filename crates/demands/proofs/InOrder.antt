@@ -24,9 +24,8 @@ use Rattle.tables.proofs.Fronts.{on, longer, through}
 use Rattle.walking.specs.Walk.{deeper, depth_at, end_of, in_order}
 use Rattle.walking.proofs.Windows.{stands, in_order_if}
 use Rattle.nesting.specs.Rows.{entry, top, component_row, property_row}
-use Rattle.nesting.specs.declared.Check.{Check}
 use Rattle.nesting.specs.declared.Entry.{Entry}
-use Rattle.nesting.specs.Steps.{State, nothing, if_open, check_of, closed, after, finished, read_lines, run_of}
+use Rattle.nesting.specs.Steps.{State, nothing, if_open, check_of, closed, after, finished, read_lines, run_of, fine}
 use Rattle.tables.specs.Lent.{Lent}
 use Rattle.reading.specs.Lent.{read_into, left}
 use Rattle.demands.specs.Lent.{told_of, in_order_in}
@@ -203,10 +202,10 @@ module _ (properties : List PropertyRow) (p : PropertyRow) where
         go false x false y =
             rw (new i d h (ltb-false i (length properties) x), new j d (omega arith) (ltb-false j (length properties) y)) (omega arith, omega arith)
 
-content : (s : State) → Ordered s → (at : ℕ) (line : List ℕ) (p : Property) → if_open Check.Fine s.opens ≡ Check.Fine → Ordered (after at line (Content p) s)
+content : (s : State) → Ordered s → (at : ℕ) (line : List ℕ) (p : Property) → if_open fine s.opens ≡ fine → Ordered (after at line (Content p) s)
 content s m at line p within = go s.opens m.opens within
   where
-    go : (es : List Entry) → Opens s.components s.properties (length s.components) es → if_open Check.Fine es ≡ Check.Fine
+    go : (es : List Entry) → Opens s.components s.properties (length s.components) es → if_open fine es ≡ fine
         → Ordered (after at line (Content p) (record { opens = es; components = s.components; properties = s.properties; parameters = s.parameters }))
     go [] os w = absurd (let z : ◌≡◌ {A = ℕ} 0 1 = cc in omega arith)
     go (e ∷ es) (next b o os) w =
@@ -220,7 +219,7 @@ content s m at line p within = go s.opens m.opens within
         }
 
 -- any line that may stand where it does
-step : (s : State) → Ordered s → (text : List ℕ) (at : ℕ) (line : List ℕ) (l : Line) → check_of text line l s.opens ≡ Check.Fine → Ordered (after at line l s)
+step : (s : State) → Ordered s → (text : List ℕ) (at : ℕ) (line : List ℕ) (l : Line) → check_of text line l s.opens ≡ fine → Ordered (after at line l s)
 step s m text at line Empty c = m
 step s m text at line (Begin name) c = begin s m at line name
 step s m text at line BadBegin c = m

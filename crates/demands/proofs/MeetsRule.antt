@@ -7,6 +7,7 @@ use native.Mathlib.Nat.{le_trans}
 use native.Mathlib.Omega.{arith}
 use lib.ListN.{length, take, drop, length-append, length-drop}
 use lib.Seq.{take-append_seam}
+use Rattle.std.specs.Prelude.{None}
 use Rattle.octets.specs.Answers.{longest, deepest, done}
 use Rattle.unfolding.specs.Unfold.{unfolded}
 use Rattle.unfolding.proofs.Laws.{length_unfolded}
@@ -20,12 +21,10 @@ use Rattle.tables.specs.TableRule.{Opened, component_fits, opens_after, property
 use Rattle.tables.specs.declared.ComponentRow.{ComponentRow}
 use Rattle.tables.specs.declared.PropertyRow.{PropertyRow}
 use Rattle.tables.specs.declared.ParameterRow.{ParameterRow}
-use Rattle.tables.specs.declared.Found.TheVariants.{Nothing}
 use Rattle.tables.proofs.Laws.{Shape, length_flat, rows_exact, component_shape, property_shape, parameter_shape}
 use Rattle.tables.proofs.Rule.{on, ended, Meets, not_broken}
 use Rattle.nesting.specs.Rows.{entry, top, component_row, property_row, parameter_rows}
-use Rattle.nesting.specs.declared.Check.{Check}
-use Rattle.nesting.specs.Steps.{State, nothing, if_open, check_of, closed, after, finished, run_of}
+use Rattle.nesting.specs.Steps.{State, nothing, if_open, check_of, closed, after, finished, run_of, fine}
 use Rattle.nesting.proofs.Lines.{deep, at_the_end}
 use Rattle.nesting.specs.declared.Entry.{Entry}
 use Rattle.reading.specs.declared.Reading.{Reading}
@@ -42,10 +41,10 @@ use Rattle.demands.proofs.RowsFit.{component_parents, component_fits_holds, prop
 -- what has been read from a text of T bytes up to `at` meets the rule so far: it holds of its rows together with any rows behind them, if it holds
 -- of these where they stand. A row behind may name one of `known` as its parent, and the open components are the last of these.
 record Meeting (T at : ℕ) (s : State) (known : List Opened) : Type 0 where
-  components : (rest : List ComponentRow) → broken_component T (length s.components) known rest ≡ Nothing
-      → broken_component T 0 [] (s.components ++ rest) ≡ Nothing
-  properties : (n : ℕ) → length s.components ≤ n → (rest : List PropertyRow) → ((row : ℕ) → broken_property T n row rest ≡ Nothing)
-      → (row : ℕ) → broken_property T n row (s.properties ++ rest) ≡ Nothing
+  components : (rest : List ComponentRow) → broken_component T (length s.components) known rest ≡ None
+      → broken_component T 0 [] (s.components ++ rest) ≡ None
+  properties : (n : ℕ) → length s.components ≤ n → (rest : List PropertyRow) → ((row : ℕ) → broken_property T n row rest ≡ None)
+      → (row : ℕ) → broken_property T n row (s.properties ++ rest) ≡ None
   parameters : (n : ℕ) → length s.properties ≤ n → (rest : List ParameterRow) → ParametersOn T n (length s.properties) rest
       → ParametersOn T n 0 (s.parameters ++ rest)
   opens : Last (chain s.opens) known
@@ -117,8 +116,8 @@ module _ {T at : ℕ} (s : State) {known : List Opened} (m : Meeting T at s know
       few_rows : length s.components ≤ no_parent
       few_rows = omega (arith, m.few)
 
-      component_on : (rest : List ComponentRow) → broken_component T (length s.components + 1) (chain (begun s at name ∷ s.opens)) rest ≡ Nothing
-          → broken_component T (length s.components) known (component_of s at name ∷ rest) ≡ Nothing
+      component_on : (rest : List ComponentRow) → broken_component T (length s.components + 1) (chain (begun s at name ∷ s.opens)) rest ≡ None
+          → broken_component T (length s.components) known (component_of s at name ∷ rest) ≡ None
       component_on rest h =
           on (component_fits T) opens_after (length s.components) known (component_of s at name ∷ rest) rest (component_of s at name) refl
           (component_fits_holds T s.opens m.opens m.falling few_rows (begun s at name) (omega (arith, sound.0, sound.1)) deep)
@@ -137,16 +136,16 @@ module _ {T at : ℕ} (s : State) {known : List Opened} (m : Meeting T at s know
           }
 
     -- a property more, with its parameters
-    module _ (p : Property) (sound : SoundProperty line p) (within : if_open Check.Fine s.opens ≡ Check.Fine) where
+    module _ (p : Property) (sound : SoundProperty line p) (within : if_open fine s.opens ≡ fine) where
       one_property : length (s.properties ++ property_of s at p ∷ []) ≡ length s.properties + 1
       one_property = length-append s.properties (property_of s at p ∷ [])
 
-      owner : (es : List Entry) → Last (chain es) known → if_open Check.Fine es ≡ Check.Fine → top es < length s.components
+      owner : (es : List Entry) → Last (chain es) known → if_open fine es ≡ fine → top es < length s.components
       owner [] l w = absurd (let z : ◌≡◌ {A = ℕ} 0 1 = cc in omega arith)
       owner (e ∷ es) l w = first_below l m.falling
 
-      property_on : (n : ℕ) → length s.components ≤ n → (rest : List PropertyRow) → ((row : ℕ) → broken_property T n row rest ≡ Nothing)
-          → (row : ℕ) → broken_property T n row (property_of s at p ∷ rest) ≡ Nothing
+      property_on : (n : ℕ) → length s.components ≤ n → (rest : List PropertyRow) → ((row : ℕ) → broken_property T n row rest ≡ None)
+          → (row : ℕ) → broken_property T n row (property_of s at p ∷ rest) ≡ None
       property_on n l rest h row =
           on (λ (seen : Bool). property_fits T n) (λ row seen p. seen) row true (property_of s at p ∷ rest) rest (property_of s at p) refl
           (property_fits_holds T n (top s.opens) at line p sound fits (le_trans (owner s.opens m.opens within) l))
@@ -176,7 +175,7 @@ module _ {T at : ℕ} (s : State) {known : List Opened} (m : Meeting T at s know
 
 -- any line that may stand where it does
 step : {T at : ℕ} (s : State) → Met T at s → (text line : List ℕ) → at + length line ≤ T → at ≤ no_parent
-    → (l : Line) → Sound line l → check_of text line l s.opens ≡ Check.Fine → Met T (at + length line) (after at line l s)
+    → (l : Line) → Sound line l → check_of text line l s.opens ≡ fine → Met T (at + length line) (after at line l s)
 step s m text line fits short Empty o c = further _ (omega arith) m
 step {T} {at} s (known, m) text line fits short (Begin name) o c =
     (chain (begun s at name ∷ s.opens), begin s m line fits short name o (deep s.opens c))
@@ -202,7 +201,7 @@ met {T} {at} {s} (known, m) some =
 
 -- a text within the byte limit that is read to the end, with at least one component, gives tables that break no rule
 pub meets_rule : (text : List ℕ) (s : State) → length text ≤ longest → run_of text ≡ finished s → 0 < length s.components
-    → broken (length text) s.components s.properties s.parameters ≡ Nothing
+    → broken (length text) s.components s.properties s.parameters ≡ None
 meets_rule text s short e some =
     not_broken (length text) s.components s.properties s.parameters
     (met
@@ -212,7 +211,7 @@ meets_rule text s short e some =
     some)
 
 -- so every readable feed gives tables that break no rule
-pub readable_meets : {feed : List ℕ} {s : State} → Readable feed s → broken (length (unfolded feed)) s.components s.properties s.parameters ≡ Nothing
+pub readable_meets : {feed : List ℕ} {s : State} → Readable feed s → broken (length (unfolded feed)) s.components s.properties s.parameters ≡ None
 readable_meets {feed} {s} r = meets_rule (unfolded feed) s (omega (arith, r.short, length_unfolded feed)) r.reads r.some
 
 -- the rows at the front of a buffer, as many as there are, lent on by themselves, are read back
@@ -237,7 +236,7 @@ told_rows {feed} {b} {s} t =
     }
 
 -- so they break no rule
-pub done_meets : (feed : List ℕ) (b : Lent) → (read_into feed b).answer ≡ done → broken_in (told_of (read_into feed b) (left feed b)) ≡ Nothing
+pub done_meets : (feed : List ℕ) (b : Lent) → (read_into feed b).answer ≡ done → broken_in (told_of (read_into feed b) (left feed b)) ≡ None
 done_meets feed b e =
     let w = done_readable feed b e in
     let t = told_rows w.2 in

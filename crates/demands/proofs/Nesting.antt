@@ -26,8 +26,7 @@ use Rattle.tables.specs.declared.ComponentRow.{ComponentRow}
 use Rattle.tables.specs.declared.PropertyRow.{PropertyRow}
 use Rattle.tables.specs.declared.ParameterRow.{ParameterRow}
 use Rattle.nesting.specs.Rows.{top, entry, component_row, property_row, parameter_row, parameter_rows}
-use Rattle.nesting.specs.Steps.{State, nothing, check_of, closed, after, Run, read_lines}
-use Rattle.nesting.specs.declared.Check.{Check}
+use Rattle.nesting.specs.Steps.{State, nothing, check_of, closed, after, Run, read_lines, fine}
 use Rattle.nesting.specs.declared.Entry.{Entry}
 use Rattle.writable.specs.WritingRule.{name_fits}
 use Rattle.printing.specs.Lines.{begin_line, end_line, property_line}
@@ -56,7 +55,7 @@ module _ (text : List ℕ) where
     same : r ≡ read_lines text (placed_from (length before) ls) s
 
   -- a line of which it is known what it is
-  passed : {r : Run} (l : List ℕ) {ls : List (List ℕ)} {s : State} (w : Reads r (l ∷ ls) s) {k : Line} → line_of l ≡ k → check_of text l k s.opens ≡ Check.Fine
+  passed : {r : Run} (l : List ℕ) {ls : List (List ℕ)} {s : State} (w : Reads r (l ∷ ls) s) {k : Line} → line_of l ≡ k → check_of text l k s.opens ≡ fine
       → Reads r ls (after (length w.before) l k s)
   unfolding plain_lines placed_from read_lines
   passed l {ls} {s} w {k} e c =

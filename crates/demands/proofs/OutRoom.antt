@@ -9,6 +9,7 @@ use native.Mathlib.Omega.{arith}
 use lib.ListN.{length, drop}
 use lib.Dec.{eqb, leb}
 use borrow.Author.Tests.{le-leb, lt-leb, ne_eqb, leb-true, leb-false, eqb-true, eqb-false}
+use Rattle.std.specs.Prelude.{Option, Some, None, Result, Ok, Err}
 use Rattle.octets.specs.Choice.{pick}
 use Rattle.octets.specs.Bytes.{lf, other, ascii}
 use Rattle.octets.specs.Runs.{run, only}
@@ -26,11 +27,10 @@ use Rattle.escapes.specs.Answers.{text_answer, value_answer}
 use Rattle.escapes.specs.declared.Mode.{Mode}
 use Rattle.tables.specs.TableRule.{by_table_rule}
 use Rattle.tables.specs.Lent.{Lent, broken_in}
-use Rattle.tables.specs.declared.Found.{Found}
-use Rattle.tables.specs.declared.Found.TheVariants.{Nothing, At}
 use Rattle.writable.specs.WritingRule.{judged_in}
-use Rattle.writable.specs.declared.Judged.{Judged}
-use Rattle.writing.specs.Answers.{written_in, not_written, by_writing_rule, by_length, write_answer}
+use Rattle.writable.specs.declared.Fault.{Fault}
+use Rattle.writable.specs.declared.Unfit.{Unfit}
+use Rattle.writing.specs.Answers.{number_of, written_in, not_written, by_writing_rule, by_length, write_answer}
 use Rattle.demands.specs.Outputs.{FitTables, RoomDecides}
 use Rattle.demands.proofs.Fronts.{untouched, same_laid}
 
@@ -195,8 +195,17 @@ value_room text = room_decides Short (as_value text) (value_answer text) (go (le
 
 -- ---- the writer
 
+-- a fault of the writing rule is a refusal, and not for room
+pub fault_not_done : (f : Fault) → number_of f ≡ done → ⊥
+fault_not_done Fault.Unwritable e = omega arith
+fault_not_done Fault.NotUtf8 e = omega arith
+
+fault_not_room : (f : Fault) → number_of f ≡ no_out_room → ⊥
+fault_not_room Fault.Unwritable e = omega arith
+fault_not_room Fault.NotUtf8 e = omega arith
+
 module _ (b : Lent) where
-  answers : {f : Found} {j : Judged} → broken_in b ≡ f → judged_in b ≡ j → (room : ℕ)
+  answers : {f : Option ℕ} {j : Result (Unit {0}) Unfit} → broken_in b ≡ f → judged_in b ≡ j → (room : ℕ)
       → write_answer b room ≡ by_table_rule not_written f (by_writing_rule j (by_length (length (written_in b)) room))
   unfolding write_answer
   answers x y room = rw (x, y)
@@ -204,24 +213,21 @@ module _ (b : Lent) where
   pub write_room : RoomDecides (FitTables b) (written_in b) (write_answer b)
   write_room = room_decides (FitTables b) (written_in b) (write_answer b) (by_table (broken_in b) refl)
     where
-      by_length_holds : broken_in b ≡ Nothing → judged_in b ≡ Judged.Writable → (t : Bool) → leb (length (written_in b)) longest ≡ t
+      by_length_holds : broken_in b ≡ None → judged_in b ≡ Ok tt → (t : Bool) → leb (length (written_in b)) longest ≡ t
           → ByRoom (FitTables b) (length (written_in b)) (write_answer b)
       by_length_holds x y true h = decided (record { table_rule = x; writing_rule = y; short = leb-true _ _ h }) (λ room. answers x y room ∙ rw h)
       by_length_holds x y false h =
           refused (output too_long 0 0) (fixed too_long 0 (λ e. omega arith) (λ e. omega arith))
           (λ f. omega (arith, f.short, leb-false (length (written_in b)) longest h)) (λ room. answers x y room ∙ rw h)
 
-      by_rule : broken_in b ≡ Nothing → (j : Judged) → judged_in b ≡ j → ByRoom (FitTables b) (length (written_in b)) (write_answer b)
-      by_rule x Judged.Writable y = by_length_holds x y (leb (length (written_in b)) longest) refl
-      by_rule x (Judged.Unwritable row) y =
-          refused (output unwritable row 0) (fixed unwritable row (λ e. omega arith) (λ e. omega arith))
-          (λ f. let z : ◌≡◌ {A = ℕ} 0 1 = cc (y, f.writing_rule) in omega arith) (answers x y)
-      by_rule x (Judged.NotUtf8 row) y =
-          refused (output not_utf8 row 0) (fixed not_utf8 row (λ e. omega arith) (λ e. omega arith))
+      by_rule : broken_in b ≡ None → (j : Result (Unit {0}) Unfit) → judged_in b ≡ j → ByRoom (FitTables b) (length (written_in b)) (write_answer b)
+      by_rule x (Ok fine) y = by_length_holds x y (leb (length (written_in b)) longest) refl
+      by_rule x (Err unfit) y =
+          refused (output (number_of unfit.fault) unfit.row 0) (fixed (number_of unfit.fault) unfit.row (fault_not_done unfit.fault) (fault_not_room unfit.fault))
           (λ f. let z : ◌≡◌ {A = ℕ} 0 1 = cc (y, f.writing_rule) in omega arith) (answers x y)
 
-      by_table : (f : Found) → broken_in b ≡ f → ByRoom (FitTables b) (length (written_in b)) (write_answer b)
-      by_table Nothing x = by_rule x (judged_in b) refl
-      by_table (At row) x =
+      by_table : (f : Option ℕ) → broken_in b ≡ f → ByRoom (FitTables b) (length (written_in b)) (write_answer b)
+      by_table None x = by_rule x (judged_in b) refl
+      by_table (Some row) x =
           refused (output bad_table row 0) (fixed bad_table row (λ e. omega arith) (λ e. omega arith))
           (λ f. let z : ◌≡◌ {A = ℕ} 0 1 = cc (x, f.table_rule) in omega arith) (answers x refl)

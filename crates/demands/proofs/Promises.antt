@@ -11,6 +11,7 @@ use mathlib.Core.List.{List, [], ◌++◌, map}
 use mathlib.Core.Logic.{◌↔◌}
 use Prim.Native.Nat.{ℕ, ◌*◌, ◌≤◌, ◌<◌}
 use lib.ListN.{length, drop}
+use Rattle.std.specs.Prelude.{None}
 use Rattle.octets.specs.Bytes.{key_byte, ascii}
 use Rattle.octets.specs.Runs.{only}
 use Rattle.octets.specs.All.{All}
@@ -20,7 +21,6 @@ use Rattle.unfolding.proofs.Laws.{Unbroken}
 use Rattle.tables.specs.Rows.{component_size, property_size, parameter_size}
 use Rattle.tables.specs.Lent.{Lent, components_in, broken_in, trees_in, tree_in}
 use Rattle.tables.specs.Trees.{Parameter, Property}
-use Rattle.tables.specs.declared.Found.TheVariants.{Nothing}
 use Rattle.nesting.specs.Steps.{State, counts_of}
 use Rattle.nesting.specs.declared.Counts.{Counts}
 use Rattle.reading.specs.Answers.{told, counts_in, refusal, measuring_of}
@@ -156,7 +156,7 @@ pub one_call_is_two : (feed : List ℕ) (b : Lent) → (read_in_turn feed b ≡ 
 one_call_is_two = in_turn
 
 -- 7. Every Done reading meets the table rule. [B-70]
-pub reading_meets_rule : (feed : List ℕ) (b : Lent) → (read_into feed b).answer ≡ done → broken_in (told_of (read_into feed b) (left feed b)) ≡ Nothing
+pub reading_meets_rule : (feed : List ℕ) (b : Lent) → (read_into feed b).answer ≡ done → broken_in (told_of (read_into feed b) (left feed b)) ≡ None
 reading_meets_rule = done_meets
 
 -- 8. Unfolding gives back what either fold made of a line without LF; the strict fold has 75 octets at most in a physical line, and cuts each at the
@@ -241,14 +241,14 @@ pub parameters_are_multisets : (ps qs : List Parameter)
 parameters_are_multisets ps qs = (as_often_exactly of_parameter ps qs, parameters_mean ps qs)
 
 -- 13. Twins is an equivalence on the rows of one table. [B-71, R5-01]
-pub twins_are_alike : (b : Lent) → ((row : ℕ) → broken_in b ≡ Nothing → row < length (components_in b.components) → Twins b row row)
+pub twins_are_alike : (b : Lent) → ((row : ℕ) → broken_in b ≡ None → row < length (components_in b.components) → Twins b row row)
     × ((one other : ℕ) → Twins b one other → Twins b other one)
     × ((one other third : ℕ) → Twins b one other → Twins b other third → Twins b one third)
 twins_are_alike b = (twin_itself b, twin_turned b, twin_joined b)
 
 -- 13a. Twins are loose twins, and loose twins too are an equivalence on the rows of one table. [R1-06]
 pub loose_twins : (b : Lent) → ((one other : ℕ) → Twins b one other → LooseTwins b one other)
-    × ((row : ℕ) → broken_in b ≡ Nothing → row < length (components_in b.components) → LooseTwins b row row)
+    × ((row : ℕ) → broken_in b ≡ None → row < length (components_in b.components) → LooseTwins b row row)
     × ((one other : ℕ) → LooseTwins b one other → LooseTwins b other one)
     × ((one other third : ℕ) → LooseTwins b one other → LooseTwins b other third → LooseTwins b one third)
 loose_twins b = (twin_is_loose b, loose_itself b, loose_turned b, loose_joined b)

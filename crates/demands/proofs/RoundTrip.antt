@@ -5,6 +5,7 @@ use Prim.Native.Nat.{ℕ, ◌≤◌, ◌<◌}
 use native.Mathlib.Omega.{arith}
 use lib.ListN.{length, length-append}
 use borrow.Author.Tests.{le-leb}
+use Rattle.std.specs.Prelude.{None}
 use Rattle.octets.specs.Bytes.{cr, lf}
 use Rattle.octets.specs.Answers.{longest, deepest, done}
 use Rattle.unfolding.specs.Unfold.{unfolded}
@@ -13,7 +14,6 @@ use Rattle.tables.specs.Rows.{no_parent}
 use Rattle.tables.specs.Trees.{Trees, none, tree}
 use Rattle.tables.specs.Sizes.{component_count, property_count, parameter_count}
 use Rattle.tables.specs.Lent.{Lent, components_in, properties_in, parameters_in, broken_in, trees_in, tree_in}
-use Rattle.tables.specs.declared.Found.TheVariants.{Nothing}
 use Rattle.tables.proofs.Rule.{meets}
 use Rattle.tables.proofs.Nested.{rows_nested}
 use Rattle.walking.proofs.Siblings.{end_within}
@@ -115,7 +115,7 @@ told_written b old e =
     let fits = le-leb _ _ a.2 in
     rw (a.0, a.1, fits) (at_front (written_in b) old (rw (a.0, a.1, fits) at e))
 
-module _ (b : Lent) (sound : broken_in b ≡ Nothing) where
+module _ (b : Lent) (sound : broken_in b ≡ None) where
   component_rows : component_count (trees_in b) ≡ length (components_in b.components)
   component_rows = all_components b.text (components_in b.components) (properties_in b.properties) (parameters_in b.parameters) (length b.text) sound
 

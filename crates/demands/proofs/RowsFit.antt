@@ -7,13 +7,12 @@ use native.Mathlib.Omega.{arith}
 use lib.ListN.{length}
 use lib.Dec.{eqb}
 use borrow.Author.Tests.{le-leb, lt-ltb, eq-eqb}
+use Rattle.std.specs.Prelude.{Option, Some, None}
 use Rattle.octets.specs.Answers.{deepest}
 use Rattle.octets.specs.declared.Span.{Span}
 use Rattle.parameters.specs.declared.Value.{Value}
 use Rattle.parameters.specs.declared.Value.TheVariants.{Absent, Present}
 use Rattle.parameters.specs.declared.Param.{Param}
-use Rattle.parameters.specs.declared.Front.{Front}
-use Rattle.parameters.specs.declared.Front.TheVariants.{NoParameter, Found}
 use Rattle.parameters.specs.Parameter.{front_of}
 use Rattle.parameters.specs.Parameters.{moved, value_moved, front_used, and_later, params_after}
 use Rattle.parameters.specs.Values.{ValueWithin}
@@ -23,7 +22,6 @@ use Rattle.lines.specs.Sound.{SoundProperty}
 use Rattle.tables.specs.Rows.{no_parent}
 use Rattle.tables.specs.TableRule.{Opened, ancestors, some, parent_fits, component_fits, property_fits, parameter_fits, broken_parameter, inside}
 use Rattle.tables.specs.declared.ParameterRow.{ParameterRow}
-use Rattle.tables.specs.declared.Found.TheVariants.{Nothing}
 use Rattle.tables.proofs.Rule.{on}
 use Rattle.nesting.specs.Rows.{top, component_row, property_row, parameter_with, parameter_row}
 use Rattle.nesting.specs.declared.Entry.{Entry}
@@ -75,7 +73,7 @@ module _ (T : ℕ) where
         both (within k.start k.len (omega arith))
         (both (within (at + v.start) v.len (omega arith)) (both (both (le-leb before m rising) (lt-ltb m properties here)) refl))
 
-    parameter_fits_holds : (at : ℕ) (xs : List ℕ) (p : Param) → front_of xs ≡ Found p → at + length xs ≤ T
+    parameter_fits_holds : (at : ℕ) (xs : List ℕ) (p : Param) → front_of xs ≡ Some p → at + length xs ≤ T
         → parameter_fits T properties before (parameter_row m (moved at p)) ≡ true
     parameter_fits_holds at xs p f h =
         let i = found_inside xs f in
@@ -83,7 +81,7 @@ module _ (T : ℕ) where
 
   -- rows that fit behind parameters of the property rows up to m, whichever was the last
   abbrev pub ParametersOn : ℕ → ℕ → List ParameterRow → Type 0
-  ParametersOn properties m rows = (row before : ℕ) → before ≤ m → broken_parameter T properties row before rows ≡ Nothing
+  ParametersOn properties m rows = (row before : ℕ) → before ≤ m → broken_parameter T properties row before rows ≡ None
 
   -- the parameters of the property row m, before such rows
   pub parameters_fit : (properties m : ℕ) → m < properties → (at k : ℕ) (xs : List ℕ) → at + length xs ≤ T
@@ -94,10 +92,10 @@ module _ (T : ℕ) where
   parameters_fit properties m here at zero (x ∷ xs) h rest r row before b =
       go (front_of (x ∷ xs)) refl (λ k. parameters_fit properties m here (at + 1) k xs (omega arith) rest r)
     where
-      go : (f : Front) → front_of (x ∷ xs) ≡ f → ((k : ℕ) → ParametersOn properties m (map (parameter_row m) (params_after (at + 1) k xs) ++ rest))
-          → broken_parameter T properties row before (map (parameter_row m) (and_later f at (params_after (at + 1) (front_used f - 1) xs)) ++ rest) ≡ Nothing
-      go NoParameter e later = r row before b
-      go (Found p) e later =
+      go : (f : Option Param) → front_of (x ∷ xs) ≡ f → ((k : ℕ) → ParametersOn properties m (map (parameter_row m) (params_after (at + 1) k xs) ++ rest))
+          → broken_parameter T properties row before (map (parameter_row m) (and_later f at (params_after (at + 1) (front_used f - 1) xs)) ++ rest) ≡ None
+      go None e later = r row before b
+      go (Some p) e later =
           on (parameter_fits T properties) (λ row seen p. p.property) row before
           (map (parameter_row m) (moved at p ∷ params_after (at + 1) (p.used - 1) xs) ++ rest)
           (map (parameter_row m) (params_after (at + 1) (p.used - 1) xs) ++ rest)

@@ -9,19 +9,18 @@ use lib.ListN.{length, get_or, drop, length-append}
 use lib.Seq.{get_or-append-add, get_or-append_seam}
 use lib.Dec.{eqb, ltb}
 use borrow.Author.Tests.{eqb-true, eqb-false}
+use Rattle.std.specs.Prelude.{Some, None}
 use Rattle.octets.specs.Choice.{pick}
 use Rattle.octets.specs.Bytes.{colon, semicolon, capital, key_byte}
 use Rattle.octets.specs.Runs.{run}
 use Rattle.octets.specs.Words.{starts_word, begin_word, end_word}
 use Rattle.octets.specs.Keys.{stops_at, stands_alone, reserved, key_of}
-use Rattle.octets.specs.declared.Key.TheVariants.{Run}
 use Rattle.octets.proofs.Runs.{no_run, stopped, through}
 use Rattle.octets.proofs.Keys.{taken, refused}
 use Rattle.octets.proofs.Bools.{both}
 use Rattle.parameters.specs.Values.{span}
 use Rattle.parameters.specs.Parameter.{front_of}
 use Rattle.parameters.specs.Parameters.{passed_of}
-use Rattle.parameters.specs.declared.Front.TheVariants.{NoParameter}
 use Rattle.parameters.proofs.RoundTrip.{Ends}
 use Rattle.lines.specs.Rule.{begin_mark, end_mark, after_begin, by_key, line_of}
 use Rattle.lines.specs.declared.Fault.{Fault}
@@ -105,10 +104,10 @@ reserved_has_key {byte} {rest} r = go r refl
 -- ---- from the reading to the grammar
 
 -- where no parameter begins there is no `;`
-none_begins : (byte : ℕ) (rest : List ℕ) → front_of (byte ∷ rest) ≡ NoParameter → byte ≡ semicolon → ⊥
+none_begins : (byte : ℕ) (rest : List ℕ) → front_of (byte ∷ rest) ≡ None → byte ≡ semicolon → ⊥
 unfolding front_of
 none_begins byte rest e q =
-    let f : front_of (semicolon ∷ rest) ≡ NoParameter = rw q at e in
+    let f : front_of (semicolon ∷ rest) ≡ None = rw q at e in
     let z : ◌≡◌ {A = ℕ} 0 1 = cc in
     omega arith
 
@@ -128,7 +127,7 @@ module _ (line : List ℕ) where
       w : FrontOf line
       w = front_of_holds line some
 
-      go : (rest : List ℕ) → line ≡ w.front ++ rest → front_of rest ≡ NoParameter → (front : List ℕ) × Stray front line × (length front ≡ stop)
+      go : (rest : List ℕ) → line ≡ w.front ++ rest → front_of rest ≡ None → (front : List ℕ) × Stray front line × (length front ≡ stop)
       go [] is none = absurd (short (omega (arith, w.size, ap length is, length-append w.front [])))
       go (byte ∷ rest) is none =
           let here : get_or line stop 0 ≡ byte =
@@ -226,7 +225,7 @@ pub fault_read : {at number place : ℕ} {line : List ℕ} → Other line → Fa
 fault_read {line = line} o (reserved_key r) =
     record { fault = ReservedKey; is = by_key_holds o ∙ refused_key line (refused line (said_reserved r)); number_is = refl; place_is = refl }
 fault_read {line = line} o (no_key h off) =
-    record { fault = EmptyKey; is = by_key_holds o ∙ empty_key line 0 (taken line (free line h) ∙ ap Run (no_run key_byte line colon off)) refl; number_is = refl; place_is = refl }
+    record { fault = EmptyKey; is = by_key_holds o ∙ empty_key line 0 (taken line (free line h) ∙ ap Some (no_run key_byte line colon off)) refl; number_is = refl; place_is = refl }
 fault_read {at} {line = line} o (a_stray_byte {front = front} h s) =
     record {
       fault = StrayByte (stop line);

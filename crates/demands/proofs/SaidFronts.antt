@@ -8,6 +8,7 @@ use native.Mathlib.Omega.{arith}
 use lib.ListN.{length, get_or, take, drop, length-append, take-append-drop}
 use lib.Seq.{take-append-le, take-append_seam, drop-append_seam}
 use lib.Dec.{eqb}
+use Rattle.std.specs.Prelude.{None}
 use Rattle.octets.specs.Choice.{pick}
 use Rattle.octets.specs.Bytes.{colon, semicolon, equals, blank, key_byte, bare}
 use Rattle.octets.specs.Runs.{run}
@@ -16,7 +17,6 @@ use Rattle.parameters.specs.Values.{quoted_len, further_len, form_of, form_used}
 use Rattle.parameters.specs.Parameter.{key_end, without_value, with_form, param_of, front_of}
 use Rattle.parameters.specs.Parameters.{params_after, params_used, passed_of}
 use Rattle.parameters.specs.declared.Param.{Param}
-use Rattle.parameters.specs.declared.Front.TheVariants.{NoParameter}
 use Rattle.parameters.proofs.Values.{quoted_is, quoted_has, form_bare, form_quoted, form_listed}
 use Rattle.parameters.proofs.Laws.{found_is}
 use Rattle.parameters.proofs.Lists.{turn, used_moved}
@@ -223,7 +223,7 @@ pub record FrontOf (line : List ℕ) : Type 0 where
   pub is : line ≡ front ++ rest
   pub keyed : Keyed front
   pub size : length front ≡ run key_byte line + (passed_of (drop (run key_byte line) line)).used
-  pub no_more : front_of rest ≡ NoParameter
+  pub no_more : front_of rest ≡ None
 
 pub front_of_holds : (line : List ℕ) → (run key_byte line ≡ 0 → ⊥) → FrontOf line
 front_of_holds line some =

@@ -9,13 +9,13 @@ use lib.ListN.{length, get_or, drop, length-append}
 use lib.Seq.{take-length, drop-append-add, drop-append_seam, get_or-append-add, get_or-append_seam}
 use lib.Dec.{eqb, ltb}
 use borrow.Author.Tests.{ltb-true, ltb-false, eqb-true, eqb-false, lt-ltb, le-leb, eq-eqb, ne_eqb}
+use Rattle.std.specs.Prelude.{Some, None}
 use Rattle.octets.specs.Choice.{pick}
 use Rattle.octets.specs.Bytes.{colon, capital, key_byte, lowered}
 use Rattle.octets.specs.Runs.{run}
 use Rattle.octets.specs.Words.{starts_word, begin_word, end_word}
 use Rattle.octets.specs.Keys.{stands_alone, reserved, key_of}
 use Rattle.octets.specs.Views.{part, viewed}
-use Rattle.octets.specs.declared.Key.TheVariants.{Run}
 use Rattle.octets.proofs.Runs.{no_run, through}
 use Rattle.octets.proofs.Keys.{taken, refused}
 use Rattle.octets.proofs.Bools.{both, neither}
@@ -23,7 +23,6 @@ use Rattle.parameters.specs.Values.{span}
 use Rattle.parameters.specs.Parameter.{front_of}
 use Rattle.parameters.specs.Parameters.{params_after, params_of, params_used, passed, passed_of}
 use Rattle.parameters.specs.declared.Passed.{Passed}
-use Rattle.parameters.specs.declared.Front.TheVariants.{NoParameter}
 use Rattle.parameters.proofs.Laws.{front_none}
 use Rattle.parameters.proofs.Lists.{used_moved}
 use Rattle.parameters.proofs.RoundTrip.{Ends}
@@ -164,7 +163,7 @@ tail_ends at_once = refl
 tail_ends valued = refl
 
 -- no parameter begins there
-tail_front : {at v len : ℕ} {tail : List ℕ} → Tail at tail v len → front_of tail ≡ NoParameter
+tail_front : {at v len : ℕ} {tail : List ℕ} → Tail at tail v len → front_of tail ≡ None
 tail_front at_once = sym (front_none [] (λ z. omega arith))
 tail_front (valued {value = value}) = sym (front_none (colon ∷ value) (λ z. omega arith))
 
@@ -197,8 +196,8 @@ module _ (key text : List ℕ) (k : Some key_byte key) where
         is_other (key ++ (text ++ tail)) (λ z. omega (arith, k.some, size_line tail))
         (no_mark begin_word (key ++ (text ++ tail)) n.0) (no_mark end_word (key ++ (text ++ tail)) n.1)
 
-    key_run : key_of (key ++ (text ++ tail)) ≡ Run (length key)
-    key_run = taken (key ++ (text ++ tail)) free ∙ ap Run (key_size key (text ++ tail) k.every off)
+    key_run : key_of (key ++ (text ++ tail)) ≡ Some (length key)
+    key_run = taken (key ++ (text ++ tail)) free ∙ ap Some (key_size key (text ++ tail) k.every off)
 
     some_key : length key ≡ 0 → ⊥
     some_key z = omega (arith, k.some)

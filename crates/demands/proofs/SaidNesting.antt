@@ -7,6 +7,7 @@ use native.Mathlib.Numerals.{add-one}
 use native.Mathlib.Omega.{arith}
 use lib.ListN.{length, drop, length-append, take-append-drop}
 use borrow.Author.Tests.{lt-ltb}
+use Rattle.std.specs.Prelude.{Err}
 use Rattle.octets.specs.Choice.{pick}
 use Rattle.octets.specs.Answers.{deepest}
 use Rattle.octets.specs.Views.{viewed}
@@ -24,8 +25,7 @@ use Rattle.tables.specs.declared.ComponentRow.{ComponentRow}
 use Rattle.tables.specs.declared.PropertyRow.{PropertyRow}
 use Rattle.tables.specs.declared.ParameterRow.{ParameterRow}
 use Rattle.nesting.specs.Rows.{top, entry, property_row}
-use Rattle.nesting.specs.Steps.{State, check_of, after, finished, read_lines}
-use Rattle.nesting.specs.declared.Check.{Check}
+use Rattle.nesting.specs.Steps.{State, check_of, after, finished, read_lines, fine}
 use Rattle.nesting.specs.declared.Entry.{Entry}
 use Rattle.nesting.specs.declared.Refusal.{Refusal}
 use Rattle.nesting.proofs.Lines.{goes_on, deep}
@@ -109,7 +109,7 @@ module _ (text : List ℕ) where
       subst (λ (ls : List Placed). Left es r (line at opening ∷ ls) depth last r') (append_assoc ls₁ (line at' closing ∷ []) ls₂)
       (in_front (line at opening ∷ (ls₁ ++ line at' closing ∷ [])) grow rest)
 
-  no_check : {x : Refusal} → Check.Bad x ≡ Check.Fine → ⊥
+  no_check : {x : Refusal} → Err x ≡ fine → ⊥
   no_check e = let z : ◌≡◌ {A = ℕ} 0 1 = cc in omega arith
 
   -- one line that may stand where it does, before what comes behind it
@@ -119,36 +119,36 @@ module _ (text : List ℕ) where
         let is : line l.start [] ≡ l = ap (line l.start) (sym e) in
         subst (λ (k : Placed). Left es r (k ∷ ls) depth name r') is (in_front (line l.start [] ∷ []) (λ ls last b. empty_line b) rest)
 
-    content_step : (es : List Entry) (p : Property) → check_of text l.content (Content p) es ≡ Check.Fine
+    content_step : (es : List Entry) (p : Property) → check_of text l.content (Content p) es ≡ fine
         → Says l.start (top es) (length r.properties) l.content (Content p)
         → Left es (rows (after l.start l.content (Content p) (state es r))) ls depth name r' → Left es r (l ∷ ls) depth name r'
     content_step [] p c s rest = absurd (no_check c)
     content_step (e ∷ es) p c s rest = in_front (l ∷ []) (λ ls last b. a_property (omega arith) s b) rest
 
-    end_step : (es : List Entry) (found : Span) → check_of text l.content (End found) es ≡ Check.Fine
+    end_step : (es : List Entry) (found : Span) → check_of text l.content (End found) es ≡ fine
         → Says l.start (top es) (length r.properties) l.content (End found)
         → Left (after l.start l.content (End found) (state es r)).opens r ls depth name r' → Left es r (l ∷ ls) depth name r'
     end_step [] found c s rest = absurd (no_check c)
     end_step (e ∷ es) found c s rest = shut l.start no_line (rw same at s.1) rest
       where
-        fine : (t : Bool) → pick t Check.Fine (Check.Bad Refusal.BadEnd) ≡ Check.Fine → t ≡ true
-        fine true q = refl
-        fine false q = absurd (no_check q)
+        by_test : (t : Bool) → pick t fine (Err Refusal.BadEnd) ≡ fine → t ≡ true
+        by_test true q = refl
+        by_test false q = absurd (no_check q)
 
         same : s.0 ≡ viewed text e.start e.len
         same =
             sym (closes_name s.1)
             ∙ ap (λ (a : Span). viewed l.content a.start a.len) (sym s.2)
-            ∙ same_eq (viewed l.content found.start found.len) (viewed text e.start e.len) (fine _ c)
+            ∙ same_eq (viewed l.content found.start found.len) (viewed text e.start e.len) (by_test _ c)
 
-    begin_step : (es : List Entry) (found : Span) → In text l → check_of text l.content (Begin found) es ≡ Check.Fine
+    begin_step : (es : List Entry) (found : Span) → In text l → check_of text l.content (Begin found) es ≡ fine
         → Says l.start (top es) (length r.properties) l.content (Begin found)
         → Left (after l.start l.content (Begin found) (state es r)).opens (rows (after l.start l.content (Begin found) (state es r))) ls depth name r'
         → Left es r (l ∷ ls) depth name r'
     begin_step es found i c s rest =
         opening_line l.start (deep es c) s.1 (rw s.2 (name_in text l i s.1)) refl (rw (s.2, add-one (length es))) rest
 
-    step : (es : List Entry) → In text l → (k : Line) → check_of text l.content k es ≡ Check.Fine
+    step : (es : List Entry) → In text l → (k : Line) → check_of text l.content k es ≡ fine
         → Says l.start (top es) (length r.properties) l.content k
         → Left (after l.start l.content k (state es r)).opens (rows (after l.start l.content k (state es r))) ls depth name r'
         → Left es r (l ∷ ls) depth name r'
@@ -159,7 +159,7 @@ module _ (text : List ℕ) where
     step es i (Content p) c s rest = content_step es p c s rest
     step es i (Bad fault) c s rest = absurd (bad es c)
       where
-        bad : (es : List Entry) → check_of text l.content (Bad fault) es ≡ Check.Fine → ⊥
+        bad : (es : List Entry) → check_of text l.content (Bad fault) es ≡ fine → ⊥
         bad [] c = no_check c
         bad (e ∷ es) c = no_check c
 
@@ -194,7 +194,7 @@ all_back so (x ∷ xs) ys a = all_back so xs ys a.1
 
 module _ (text : List ℕ) where
   -- a line of which it is known what it is
-  pub passed : (l : Placed) (ls : List Placed) (s : State) {k : Line} → line_of l.content ≡ k → check_of text l.content k s.opens ≡ Check.Fine
+  pub passed : (l : Placed) (ls : List Placed) (s : State) {k : Line} → line_of l.content ≡ k → check_of text l.content k s.opens ≡ fine
       → read_lines text (l ∷ ls) s ≡ read_lines text ls (after l.start l.content k s)
   unfolding read_lines
   passed l ls s e c = rw (e, c)

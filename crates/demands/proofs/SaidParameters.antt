@@ -8,6 +8,7 @@ use lib.ListN.{length, get_or, drop, length-append}
 use lib.Seq.{drop-append-add, drop-append_seam, get_or-append-add}
 use lib.Dec.{eqb}
 use borrow.Author.Tests.{eqb-true, eqb-false}
+use Rattle.std.specs.Prelude.{Option, Some, None}
 use Rattle.octets.specs.Bytes.{tab, space, quote, colon, semicolon, equals, blank, key_byte, bare}
 use Rattle.octets.specs.Runs.{run}
 use Rattle.octets.proofs.Runs.{no_run, through}
@@ -18,8 +19,6 @@ use Rattle.parameters.specs.declared.Form.{Form}
 use Rattle.parameters.specs.declared.Form.TheVariants.{Nothing, Bare, Quoted, Listed}
 use Rattle.parameters.specs.declared.Value.TheVariants.{Absent}
 use Rattle.parameters.specs.declared.Param.{Param}
-use Rattle.parameters.specs.declared.Front.{Front}
-use Rattle.parameters.specs.declared.Front.TheVariants.{NoParameter, Found}
 use Rattle.parameters.proofs.Laws.{front_bare, front_form, found_is}
 use Rattle.parameters.proofs.Lists.{turn, stop}
 use Rattle.parameters.proofs.RoundTrip.{Ends}
@@ -57,12 +56,12 @@ module _ (blanks key ys : List ℕ) (b : Every blank blanks) (k : Every key_byte
 
   -- no `=` behind the key
   front_without : (get_or ys 0 0 ≡ equals → ⊥)
-      → Found (param (span (1 + length blanks) (length key)) Absent (1 + length blanks + length key)) ≡ front_of whole
+      → Some (param (span (1 + length blanks) (length key)) Absent (1 + length blanks + length key)) ≡ front_of whole
   front_without h = front_bare whole refl (1 + length blanks) starts (length key) runs (λ q. h (sym next ∙ q))
 
   -- an `=`, and what stands behind it
   pub front_with : (form : Form) → get_or ys 0 0 ≡ equals → form ≡ form_of (drop 1 ys)
-      → Found
+      → Some
       (param (span (1 + length blanks) (length key)) (value_at (1 + length blanks + length key + 1) form) (1 + length blanks + length key + 1 + form_used form))
       ≡ front_of whole
   front_with form h is =
@@ -119,7 +118,7 @@ module _ (number at : ℕ) (blanks key : List ℕ) where
   -- what is found is a parameter of the grammar
   module _ (b : Every blank blanks) (k : Every key_byte key) where
     one_of : (ys : List ℕ) → blank (get_or (key ++ ys) 0 colon) ≡ false → key_byte (get_or ys 0 colon) ≡ false
-        → (p : Param) → front_of (semicolon ∷ (blanks ++ (key ++ ys))) ≡ Found p → One number at (semicolon ∷ (blanks ++ (key ++ ys))) p
+        → (p : Param) → front_of (semicolon ∷ (blanks ++ (key ++ ys))) ≡ Some p → One number at (semicolon ∷ (blanks ++ (key ++ ys))) p
     one_of ys gap off p h = go ys refl
       where
         no_equals : (get_or ys 0 0 ≡ equals → ⊥) → One number at (semicolon ∷ (blanks ++ (key ++ ys))) p
@@ -168,7 +167,7 @@ module _ (number at : ℕ) (blanks key : List ℕ) where
             by true q = with_equals zs (e ∙ ap (λ (x : ℕ). x ∷ zs) (eqb-true y equals q))
             by false q = no_equals (λ r. eqb-false y equals q (sym (ap (λ (l : List ℕ). get_or l 0 0) e) ∙ r))
 
-one : (number at : ℕ) (xs : List ℕ) (p : Param) → front_of xs ≡ Found p → One number at xs p
+one : (number at : ℕ) (xs : List ℕ) (p : Param) → front_of xs ≡ Some p → One number at xs p
 one number at xs p h =
     let s = begins xs (found_is xs h).0 in
     let b = split blank colon refl s.0 in
@@ -200,16 +199,16 @@ module _ (number at : ℕ) (blanks key value rest : List ℕ) {present start len
       ∙ drop-append-add key (value ++ rest) (length value + 0)
       ∙ drop-append-add value rest 0)
 
-  turned : front_of from ≡ Found p → params_after at 0 from ≡ moved at p ∷ params_after past 0 rest
+  turned : front_of from ≡ Some p → params_after at 0 from ≡ moved at p ∷ params_after past 0 rest
   turned h =
       let n : at + p.used ≡ past = omega (arith, s.used) in
       turn at from p h ∙ rw (rest_left, n)
 
-  pub used_turned : front_of from ≡ Found p → params_used (params_after at 0 from) ≡ p.used + params_used (params_after past 0 rest)
+  pub used_turned : front_of from ≡ Some p → params_used (params_after at 0 from) ≡ p.used + params_used (params_after past 0 rest)
   unfolding params_used
   used_turned h = ap params_used (turned h)
 
-  rows_turned : front_of from ≡ Found p
+  rows_turned : front_of from ≡ Some p
       → map (parameter_row number) (params_after at 0 from)
       ≡ row_with number (at + 1 + length blanks) (length key) present start len ∷ map (parameter_row number) (params_after past 0 rest)
   rows_turned h =
@@ -222,17 +221,17 @@ pub record FoundAll (number at : ℕ) (xs : List ℕ) : Type 0 where
   pub is : xs ≡ text ++ tail
   pub size : params_used (params_after at 0 xs) ≡ length text
   pub parameters : Parameters number tail at text (map (parameter_row number) (params_after at 0 xs))
-  pub no_more : front_of tail ≡ NoParameter
+  pub no_more : front_of tail ≡ None
 
 -- none is found
-found_none : (number at : ℕ) (xs : List ℕ) → front_of xs ≡ NoParameter → FoundAll number at xs
+found_none : (number at : ℕ) (xs : List ℕ) → front_of xs ≡ None → FoundAll number at xs
 unfolding params_used
 found_none number at xs h =
     let e = stop at xs h in
     record { text = []; tail = xs; is = refl; size = ap params_used e; parameters = rw e no_parameter; no_more = h }
 
 -- one is found, and then those behind it
-found_one : (number at : ℕ) (xs : List ℕ) (p : Param) → front_of xs ≡ Found p → (o : One number at xs p)
+found_one : (number at : ℕ) (xs : List ℕ) (p : Param) → front_of xs ≡ Some p → (o : One number at xs p)
     → FoundAll number (past number at o.blanks o.key o.value o.rest o.shows) o.rest → FoundAll number at xs
 found_one number at xs p h o later =
     let text : List ℕ = semicolon ∷ (o.blanks ++ (o.key ++ (o.value ++ later.text))) in
@@ -256,14 +255,14 @@ found_one number at xs p h o later =
 pub found_all : (n number at : ℕ) (xs : List ℕ) → length xs ≤ n → FoundAll number at xs
 found_all zero number at xs l = go (front_of xs) refl
   where
-    go : (f : Front) → front_of xs ≡ f → FoundAll number at xs
-    go NoParameter e = found_none number at xs e
-    go (Found p) e = absurd (omega (arith, ap length (one number at xs p e).is))
+    go : (f : Option Param) → front_of xs ≡ f → FoundAll number at xs
+    go None e = found_none number at xs e
+    go (Some p) e = absurd (omega (arith, ap length (one number at xs p e).is))
 found_all (suc n) number at xs l = go (front_of xs) refl (λ at' ys l'. found_all n number at' ys l')
   where
-    go : (f : Front) → front_of xs ≡ f → ((at' : ℕ) (ys : List ℕ) → length ys ≤ n → FoundAll number at' ys) → FoundAll number at xs
-    go NoParameter e ih = found_none number at xs e
-    go (Found p) e ih =
+    go : (f : Option Param) → front_of xs ≡ f → ((at' : ℕ) (ys : List ℕ) → length ys ≤ n → FoundAll number at' ys) → FoundAll number at xs
+    go None e ih = found_none number at xs e
+    go (Some p) e ih =
         let o = one number at xs p e in
         let fewer : length o.rest ≤ n = omega (arith, ap length o.is, size_from number at o.blanks o.key o.value o.rest o.shows) in
         found_one number at xs p e o (ih (past number at o.blanks o.key o.value o.rest o.shows) o.rest fewer)
@@ -296,7 +295,7 @@ row_at number size len p q = cc
 
 -- the parameter at the front is p
 pub record Taken (number at : ℕ) (blanks key value rest : List ℕ) (present start len : ℕ) (p : Param) : Type 0 where
-  pub found : front_of (semicolon ∷ (blanks ++ (key ++ (value ++ rest)))) ≡ Found p
+  pub found : front_of (semicolon ∷ (blanks ++ (key ++ (value ++ rest)))) ≡ Some p
   pub shows : Shows number at blanks key value present start len p
 
 module _ (number at : ℕ) (blanks key : List ℕ) (b : Every blank blanks) (k : Every key_byte key) where
@@ -382,7 +381,7 @@ read_one number at blanks key value later tail {present} {start} {len} {rows} {p
           );
     }
 
-pub read_all : {number : ℕ} {tail : List ℕ} {at : ℕ} {text : List ℕ} {rows : List ParameterRow} → Parameters number tail at text rows → front_of tail ≡ NoParameter → Ends tail
+pub read_all : {number : ℕ} {tail : List ℕ} {at : ℕ} {text : List ℕ} {rows : List ParameterRow} → Parameters number tail at text rows → front_of tail ≡ None → Ends tail
     → ReadAll number at text tail rows
 unfolding params_used
 read_all {tail = tail} {at = at} no_parameter n e = let s = stop at tail n in record { rows_are = rw s; size = ap params_used s }

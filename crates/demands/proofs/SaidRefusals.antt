@@ -7,6 +7,7 @@ use native.Mathlib.Omega.{arith}
 use lib.ListN.{length, drop}
 use lib.Dec.{eqb, ltb}
 use borrow.Author.Tests.{ltb-false, le-ltb}
+use Rattle.std.specs.Prelude.{Err}
 use Rattle.octets.specs.Choice.{pick}
 use Rattle.octets.specs.Answers.{deepest}
 use Rattle.octets.specs.Bytes.{key_byte}
@@ -21,8 +22,7 @@ use Rattle.lines.specs.declared.Fault.{Fault}
 use Rattle.lines.specs.declared.Line.{Line}
 use Rattle.lines.specs.declared.Line.TheVariants.{Empty, Begin, BadBegin, End, Content, Bad}
 use Rattle.lines.proofs.Rule.{is_empty}
-use Rattle.nesting.specs.Steps.{names, check_of}
-use Rattle.nesting.specs.declared.Check.{Check}
+use Rattle.nesting.specs.Steps.{names, check_of, fine}
 use Rattle.nesting.specs.declared.Entry.{Entry}
 use Rattle.nesting.specs.declared.Refusal.{Refusal}
 use Rattle.reading.specs.Answers.{number_of, place_of}
@@ -73,11 +73,11 @@ of_other content o = go (line_of content) (says 0 0 0 content)
 
 -- ---- from the check to the grammar
 
-fine_bad : {x : Refusal} → Check.Fine ≡ Check.Bad x → ⊥
+fine_bad : {x : Refusal} → fine ≡ Err x → ⊥
 fine_bad e = let z : ◌≡◌ {A = ℕ} 0 1 = cc in omega arith
 
 -- a check that is a choice between these two
-chosen : (t : Bool) {x y : Refusal} → pick t Check.Fine (Check.Bad x) ≡ Check.Bad y → (t ≡ false) × (x ≡ y)
+chosen : (t : Bool) {x y : Refusal} → pick t fine (Err x) ≡ Err y → (t ≡ false) × (x ≡ y)
 chosen true e = absurd (fine_bad e)
 chosen false e = (refl, cc)
 
@@ -86,7 +86,7 @@ module _ (text : List ℕ) (at : ℕ) (content : List ℕ) where
   abbrev RefusedWith : ℕ → List ℕ → Refusal → Type 0
   RefusedWith depth name x = Refuses Faulty depth name at content (number_of x) (place_of x at)
 
-  pub refuses : (es : List Entry) (x : Refusal) → check_of text content (line_of content) es ≡ Check.Bad x → RefusedWith (length es) (innermost text es) x
+  pub refuses : (es : List Entry) (x : Refusal) → check_of text content (line_of content) es ≡ Err x → RefusedWith (length es) (innermost text es) x
   refuses es x c = go (line_of content) refl (says 0 0 0 content) es c
     where
       same : {depth : ℕ} {name : List ℕ} {y : Refusal} → y ≡ x → RefusedWith depth name y → RefusedWith depth name x
@@ -95,7 +95,7 @@ module _ (text : List ℕ) (at : ℕ) (content : List ℕ) where
       ordinary : {k : Line} → line_of content ≡ k → Ordinary k → Other content
       ordinary e o = other_of content (subst Ordinary (sym e) o)
 
-      go : (k : Line) → line_of content ≡ k → Says 0 0 0 content k → (es : List Entry) → check_of text content k es ≡ Check.Bad x
+      go : (k : Line) → line_of content ≡ k → Says 0 0 0 content k → (es : List Entry) → check_of text content k es ≡ Err x
           → RefusedWith (length es) (innermost text es) x
       go Empty e s es c = absurd (fine_bad c)
       go (Begin found) e s es c = let d = chosen (ltb (length es) deepest) c in same d.1 (too_deep s.1 (ltb-false (length es) deepest d.0))
@@ -119,22 +119,22 @@ module _ (text : List ℕ) (at : ℕ) (content : List ℕ) where
   -- ---- and the other way round
 
   -- the check of a line, by what the line is read as
-  check_as : (es : List Entry) {k : Line} {x : Refusal} → line_of content ≡ k → check_of text content k es ≡ Check.Bad x
-      → check_of text content (line_of content) es ≡ Check.Bad x
+  check_as : (es : List Entry) {k : Line} {x : Refusal} → line_of content ≡ k → check_of text content k es ≡ Err x
+      → check_of text content (line_of content) es ≡ Err x
   check_as es e c = ap (λ (k : Line). check_of text content k es) e ∙ c
 
   -- END where this is not the name of the innermost component
   end_refused : (es : List Entry) (rest : List ℕ) → Closes rest content → (0 < length es → rest ≡ innermost text es → ⊥)
-      → check_of text content (line_of content) es ≡ Check.Bad Refusal.BadEnd
+      → check_of text content (line_of content) es ≡ Err Refusal.BadEnd
   end_refused [] rest m h = check_as [] (closes_read m) refl
   end_refused (e ∷ es) rest m h = check_as (e ∷ es) (closes_read m) (rw (closes_name m) (go (same_bytes rest (viewed text e.start e.len)) refl))
     where
-      go : (t : Bool) → same_bytes rest (viewed text e.start e.len) ≡ t → pick t Check.Fine (Check.Bad Refusal.BadEnd) ≡ Check.Bad Refusal.BadEnd
+      go : (t : Bool) → same_bytes rest (viewed text e.start e.len) ≡ t → pick t fine (Err Refusal.BadEnd) ≡ Err Refusal.BadEnd
       go true q = absurd (h (omega arith) (same_eq rest (viewed text e.start e.len) q))
       go false q = refl
 
   -- any other line outside
-  outside_refused : (k : Line) → Ordinary k → check_of text content k [] ≡ Check.Bad Refusal.Outside
+  outside_refused : (k : Line) → Ordinary k → check_of text content k [] ≡ Err Refusal.Outside
   outside_refused Empty o = absurd o
   outside_refused (Begin found) o = absurd o
   outside_refused BadBegin o = absurd o
@@ -143,20 +143,20 @@ module _ (text : List ℕ) (at : ℕ) (content : List ℕ) where
   outside_refused (Bad fault) o = refl
 
   -- and inside, with its fault
-  inside_refused : (es : List Entry) (f : Fault) → 0 < length es → line_of content ≡ Bad f → check_of text content (line_of content) es ≡ Check.Bad (Refusal.Line f)
+  inside_refused : (es : List Entry) (f : Fault) → 0 < length es → line_of content ≡ Bad f → check_of text content (line_of content) es ≡ Err (Refusal.Line f)
   inside_refused [] f some e = absurd (omega arith)
   inside_refused (o ∷ es) f some e = check_as (o ∷ es) e refl
 
   pub refused_by : {depth number place : ℕ} {name : List ℕ} → Refuses Faulty depth name at content number place
       → (es : List Entry) → length es ≡ depth → innermost text es ≡ name
-      → (x : Refusal) × (check_of text content (line_of content) es ≡ Check.Bad x) × (number_of x ≡ number) × (place_of x at ≡ place)
+      → (x : Refusal) × (check_of text content (line_of content) es ≡ Err x) × (number_of x ≡ number) × (place_of x at ≡ place)
   refused_by (bad_begin m h) es n i = (Refusal.BadBegin, check_as es (bad_begin_read m h) refl, refl, refl)
   refused_by (too_deep o d) es n i = (Refusal.TooDeep, check_as es (opens_read o) (rw (le-ltb (length es) deepest (omega arith))), refl, refl)
   refused_by (none_open {rest = rest} m d) es n i = (Refusal.BadEnd, end_refused es rest m (λ some q. omega arith), refl, refl)
   refused_by (other_name {rest = rest} m h) es n i = (Refusal.BadEnd, end_refused es rest m (λ some q. h (q ∙ i)), refl, refl)
   refused_by (outside o d) es n i = (Refusal.Outside, none es (n ∙ d), refl, refl)
     where
-      none : (es : List Entry) → length es ≡ 0 → check_of text content (line_of content) es ≡ Check.Bad Refusal.Outside
+      none : (es : List Entry) → length es ≡ 0 → check_of text content (line_of content) es ≡ Err Refusal.Outside
       none [] z = outside_refused (line_of content) (of_other content o)
       none (e ∷ es) z = absurd (omega arith)
   refused_by (no_property o d w) es n i =

@@ -9,6 +9,7 @@ use lib.ListN.{length, get_or, drop, length-append, length-drop}
 use lib.Seq.{take-length, take-append_seam, take-append-le, drop-append_seam, drop-append-le, drop-append-add, get_or-append_seam, get_or-append-add}
 use lib.Dec.{eqb, leb, ltb}
 use borrow.Author.Tests.{ltb-true, leb-true, eqb-true, eqb-false, lt-ltb, le-leb, eq-eqb, ne_eqb, not-true}
+use Rattle.std.specs.Prelude.{Some}
 use Rattle.octets.specs.Choice.{pick}
 use Rattle.octets.specs.Bytes.{tab, lf, cr, space, quote, colon, semicolon, equals, blank, capital, key_byte, bare, lowered}
 use Rattle.octets.specs.Runs.{run, only}
@@ -16,7 +17,6 @@ use Rattle.octets.specs.Words.{starts_word, begin_word, end_word}
 use Rattle.octets.specs.Keys.{stops_at, stands_alone, reserved, key_of}
 use Rattle.octets.specs.Views.{part, viewed}
 use Rattle.octets.specs.All.{All}
-use Rattle.octets.specs.declared.Key.TheVariants.{Run}
 use Rattle.octets.specs.declared.Span.{Span}
 use Rattle.octets.proofs.Bools.{both, neither}
 use Rattle.octets.proofs.Runs.{no_run, through, whole_head, whole_tail, whole_wider, all_of}
@@ -27,7 +27,6 @@ use Rattle.parameters.specs.Parameters.{moved, value_moved, params_after, params
 use Rattle.parameters.specs.declared.Value as read
 use Rattle.parameters.specs.declared.Value.TheVariants.{Absent, Present}
 use Rattle.parameters.specs.declared.Param.{Param}
-use Rattle.parameters.specs.declared.Front.TheVariants.{Found}
 use Rattle.parameters.proofs.Laws.{front_none, found_inside}
 use Rattle.parameters.proofs.Lists.{turn, stop}
 use Rattle.parameters.proofs.RoundTrip.{Ends, reads_absent, absent_left}
@@ -151,7 +150,7 @@ Shown rest (Present s) (present v) = part rest s.start s.len ≡ v
 
 -- the parameter is read at the front of the rest, and what it leaves is the next
 record ReadBack (rest : List ℕ) (p : Parameter) (next : List ℕ) (q : Param) : Type 0 where
-  found : front_of rest ≡ Found q
+  found : front_of rest ≡ Some q
   key : part rest q.key.start q.key.len ≡ p.key
   value : Shown rest q.value p.value
   left : drop q.used rest ≡ next
@@ -314,7 +313,7 @@ module _ (p : Property) (fit : FitProperty p) where
   no_words = neither (stands_alone begin_word (property_line p)) free
 
   -- the key is the whole run of key bytes
-  key_run : key_of (property_line p) ≡ Run (length p.key)
+  key_run : key_of (property_line p) ≡ Some (length p.key)
   key_run =
       let n : run key_byte (property_line p) ≡ length p.key =
       omega (arith, through key_byte p.key (rest p) (named p fit).whole, no_run key_byte (rest p) colon (off key_byte refl refl)) in

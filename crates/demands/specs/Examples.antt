@@ -1,17 +1,13 @@
 -- Serves laws only. The starred examples of document 01, "Examples": what an example can say, when it holds, and the twelve of them as one table.
 -- Assumes nothing.
-use Rattle.std.specs.Prelude.{ℕ, Bool, true, false, ◌&&◌, List, [], ◌∷◌, ◌++◌, map, length, replicate, eqb}
+use Rattle.std.specs.Prelude.{ℕ, Bool, true, false, ◌&&◌, List, [], ◌∷◌, ◌++◌, map, length, replicate, eqb, Option, Some, None}
 use Rattle.octets.specs.Words.{same_bytes}
 use Rattle.octets.specs.Views.{viewed}
 use Rattle.octets.specs.Keys.{key_of}
-use Rattle.octets.specs.declared.Key.{Key}
-use Rattle.octets.specs.declared.Key.TheVariants.{Reserved, Run}
 use Rattle.octets.specs.declared.Span.{Span}
 use Rattle.unfolding.specs.Unfold.{unfolded}
 use Rattle.parameters.specs.declared.Value.{Value}
 use Rattle.parameters.specs.declared.Value.TheVariants.{Absent, Present}
-use Rattle.parameters.specs.declared.Front.{Front}
-use Rattle.parameters.specs.declared.Front.TheVariants.{NoParameter, Found}
 use Rattle.parameters.specs.Parameter.{front_of}
 use Rattle.folding.specs.Pieces.{joined, physical}
 use Rattle.folding.specs.Strict.{strict, strict_pieces}
@@ -42,13 +38,13 @@ pub data Example : Type 0 where
 
 -- ---- when it holds
 
-abbrev pub has_length : Key → ℕ → Bool
-has_length Reserved bytes = false
-has_length (Run n) bytes = eqb n bytes
+abbrev pub has_length : Option ℕ → ℕ → Bool
+has_length None bytes = false
+has_length (Some n) bytes = eqb n bytes
 
-abbrev pub is_refused : Key → Bool
-is_refused Reserved = true
-is_refused (Run n) = false
+abbrev pub is_refused : Option ℕ → Bool
+is_refused None = true
+is_refused (Some n) = false
 
 -- these bytes stand there, and all of them inside
 abbrev pub is_at : List ℕ → Span → List ℕ → Bool
@@ -62,13 +58,13 @@ abbrev pub is_present : List ℕ → Value → List ℕ → Bool
 is_present rest Absent bytes = false
 is_present rest (Present s) bytes = is_at rest s bytes
 
-abbrev pub has_none : List ℕ → Front → List ℕ → ℕ → Bool
-has_none rest NoParameter name used = false
-has_none rest (Found p) name used = is_at rest p.key name && (is_absent p.value && eqb p.used used)
+abbrev pub has_none : List ℕ → Option Param → List ℕ → ℕ → Bool
+has_none rest None name used = false
+has_none rest (Some p) name used = is_at rest p.key name && (is_absent p.value && eqb p.used used)
 
-abbrev pub has_value : List ℕ → Front → List ℕ → List ℕ → ℕ → Bool
-has_value rest NoParameter name value used = false
-has_value rest (Found p) name value used = is_at rest p.key name && (is_present rest p.value value && eqb p.used used)
+abbrev pub has_value : List ℕ → Option Param → List ℕ → List ℕ → ℕ → Bool
+has_value rest None name value used = false
+has_value rest (Some p) name value used = is_at rest p.key name && (is_present rest p.value value && eqb p.used used)
 
 -- the fold gives these pieces joined, and their physical lines have so many octets
 abbrev pub has_lines : List ℕ → List (List ℕ) → List ℕ → Bool

@@ -1,11 +1,10 @@
 -- Serves laws only. Filling, from a text and into tables that are lent: what a text needs, and more rows (document 02, request 6).
 -- Assumes nothing.
-use Rattle.std.specs.Prelude.{ℕ, ◌≤◌, ◌≡◌, List, length, take}
+use Rattle.std.specs.Prelude.{ℕ, ◌≤◌, ◌≡◌, List, length, take, Ok}
 use Rattle.octets.specs.Answers.{longest}
 use Rattle.tables.specs.Lent.{Lent}
 use Rattle.nesting.specs.Steps.{outcome_of}
 use Rattle.nesting.specs.declared.Counts.{Counts}
-use Rattle.nesting.specs.declared.Outcome.TheVariants.{Read}
 use Rattle.reading.specs.Answers.{measuring_of, text_after}
 use Rattle.reading.specs.Lent.{room_in}
 use Rattle.demands.specs.Room.{AtMost}
@@ -13,7 +12,7 @@ use Rattle.demands.specs.Room.{AtMost}
 -- the text is within the limit, it is read to its end, and these are the counts of its rows
 pub record Needs (text : List ℕ) (counts : Counts) : Type 0 where
   pub short : length text ≤ longest
-  pub reads : outcome_of text ≡ Read counts
+  pub reads : outcome_of text ≡ Ok counts
 
 -- the same text, and each table has at least as many rows
 pub record MoreRows (b b' : Lent) : Type 0 where

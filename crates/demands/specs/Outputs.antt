@@ -1,13 +1,11 @@
 -- Serves laws only. Answers of a fold, of quoting and of the writer: the bytes that they tell of, and how room decides about them (document 01, "What each number
 -- returns and leaves").
 -- Assumes nothing.
-use Rattle.std.specs.Prelude.{ℕ, ◌≤◌, ◌<◌, ◌≡◌, ◌↔◌, List, ◌++◌, length, take, drop}
+use Rattle.std.specs.Prelude.{ℕ, ◌≤◌, ◌<◌, ◌≡◌, ◌↔◌, List, ◌++◌, length, take, drop, None, Ok}
 use Rattle.octets.specs.Answers.{longest, done, no_out_room, output, out_after}
 use Rattle.octets.specs.declared.Output.{Output}
 use Rattle.tables.specs.Lent.{Lent, broken_in}
-use Rattle.tables.specs.declared.Found.TheVariants.{Nothing}
 use Rattle.writable.specs.WritingRule.{judged_in}
-use Rattle.writable.specs.declared.Judged.{Judged}
 use Rattle.writing.specs.Answers.{written_in}
 use Rattle.demands.specs.Room.{SameFront}
 
@@ -17,8 +15,8 @@ told_bytes r new = take r.length new
 
 -- the tables meet both rules, and what they are written as is within the byte limit: then room alone decides
 pub record FitTables (b : Lent) : Type 0 where
-  pub table_rule : broken_in b ≡ Nothing
-  pub writing_rule : judged_in b ≡ Judged.Writable
+  pub table_rule : broken_in b ≡ None
+  pub writing_rule : judged_in b ≡ Ok tt
   pub short : length (written_in b) ≤ longest
 
 -- the answer to each room, for these bytes; Fine is what it takes that room decides

@@ -10,7 +10,7 @@ ghost use Rattle.escapes.specs.Answers.{text_answer, text_out, value_answer, val
 ghost use Rattle.escapes.specs.Loose.{same_text};
 ghost use Rattle.escapes.specs.Turns.{scanned, Turns, read_alike, Written};
 
-use octets::Output;
+use octets::{Answer, Output};
 
 // Which escapes are read: those of the RFC, or also the colon's, as the repository's tests have it.
 #[derive(Clone, Copy)]
@@ -102,10 +102,10 @@ pub fn read_text(mode: Mode, value: &[u8], out: &mut [u8]) -> Output
     ensures { (result ≡ text_answer mode value.now (length out.old)) × (out.new ≡ text_out mode value.now out.old) }
 {
     if octets::LONGEST < value.len() {
-        return Output::refusal(octets::TOO_LONG, 0);
+        return Output::refusal(Answer::TooLong, 0);
     }
     match look_through(mode, value) {
-        Err(place) => Output::refusal(octets::BAD_ESCAPE, place),
+        Err(place) => Output::refusal(Answer::BadEscape, place),
         Ok(needed) => {
             let answer = octets::room_for(needed, out.len());
             if answer.is_done() {
@@ -215,11 +215,11 @@ pub fn write_text(text: &[u8], out: &mut [u8]) -> Output
     ensures { (result ≡ value_answer text.now (length out.old)) × (out.new ≡ value_out text.now out.old) }
 {
     if octets::LONGEST < text.len() {
-        return Output::refusal(octets::TOO_LONG, 0);
+        return Output::refusal(Answer::TooLong, 0);
     }
     let needed = value_length(text);
     if octets::LONGEST < needed {
-        return Output::refusal(octets::TOO_LONG, 0);
+        return Output::refusal(Answer::TooLong, 0);
     }
     let told = octets::room_for(needed, out.len());
     if told.is_done() {

@@ -3,6 +3,7 @@
 #![tactic(auto)]
 
 ghost use Rattle.std.specs.Prelude.{◌≡◌, ◌+◌, ◌<◌, ◌≤◌, length, ◌++◌};
+ghost use Rattle.octets.specs.Answers.{answer_number};
 ghost use Rattle.octets.specs.Laid.{laid, Lays};
 ghost use Rattle.octets.specs.Runs.{run, only};
 ghost use Rattle.characters.specs.Units.{units};
@@ -11,7 +12,7 @@ ghost use Rattle.folding.specs.Strict.{folded_units, folded_piece, strict};
 ghost use Rattle.folding.specs.Repository.{cut, repository};
 ghost use Rattle.folding.specs.Answers.{foldable, byte_answer, passed, strict_line, repository_line, fold_answer, fold_out};
 
-use octets::Output;
+use octets::{Answer, Output};
 
 // How many octets the present physical line still takes.
 #[derive(Clone, Copy)]
@@ -141,16 +142,16 @@ fn foldable_front(line: &[u8]) -> usize
 }
 
 // What refuses a line for its bytes: an LF, or a byte that the fold does not take, of which `sound` stand in front.
-fn check_bytes(line: &[u8], number: u32, sound: usize) -> Result<(), Output>
-    requires { 0 < number }
-    ensures { result ≡ passed (byte_answer number sound line.now) }
+fn check_bytes(line: &[u8], answer: Answer, sound: usize) -> Result<(), Output>
+    requires { 0 < answer_number answer }
+    ensures { result ≡ passed (byte_answer (answer_number answer) sound line.now) }
 {
     let end = octets::find_near(line, 0, b'\n');
     if end < line.len() {
-        return Err(Output::refusal(octets::HAS_BREAK, end));
+        return Err(Output::refusal(Answer::HasBreak, end));
     }
     if sound < line.len() {
-        return Err(Output::refusal(number, sound));
+        return Err(Output::refusal(answer, sound));
     }
     Ok(())
 }
@@ -160,7 +161,7 @@ fn check_strict(line: &[u8]) -> Result<(), Output>
     ensures { result ≡ passed (strict_line line.now) }
 {
     if line.len() > octets::LONGEST {
-        return Err(Output::refusal(octets::TOO_LONG, 0));
+        return Err(Output::refusal(Answer::TooLong, 0));
     }
     let front = foldable_front(line);
     if line.len() <= front {
@@ -169,7 +170,7 @@ fn check_strict(line: &[u8]) -> Result<(), Output>
     if characters::is_common_text(&line[front..]) {
         return Ok(());
     }
-    check_bytes(line, octets::NOT_UTF8, characters::utf8_run(line))
+    check_bytes(line, Answer::NotUtf8, characters::utf8_run(line))
 }
 
 // The same in the repository's.
@@ -177,13 +178,13 @@ fn check_repository(line: &[u8]) -> Result<(), Output>
     ensures { result ≡ passed (repository_line line.now) }
 {
     if octets::LONGEST < line.len() {
-        return Err(Output::refusal(octets::TOO_LONG, 0));
+        return Err(Output::refusal(Answer::TooLong, 0));
     }
     if all_foldable(line) {
         return Ok(());
     }
     let sound = octets::run_while(line, |b| b.is_ascii());
-    check_bytes(line, octets::NOT_ASCII, sound)
+    check_bytes(line, Answer::NotAscii, sound)
 }
 
 // The strict fold of a line, counted first and then written: a refusal changes nothing.

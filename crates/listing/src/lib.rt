@@ -10,6 +10,7 @@ ghost use Rattle.tables.specs.Lent.{lent};
 ghost use Rattle.tables.specs.Rows.{row_at};
 ghost use Rattle.reading.specs.Lent.{read_into, left};
 
+use octets::Answer;
 use reading::Reading;
 use tables::{ComponentRow, ParameterRow, PropertyRow, Row};
 
@@ -236,7 +237,7 @@ pub fn list(
         ≡ left_listed feed.now (lent text.old components.old properties.old parameters.old) }
 {
     if LONGEST < feed.len() {
-        return lay_refusal(Reading::refusal(octets::TOO_LONG, 0, 0), out);
+        return lay_refusal(Reading::refusal(Answer::TooLong, 0, 0), out);
     }
     let r = read_in_turn(feed, text, components, properties, parameters);
     lay_listing(r, text, components, properties, parameters, out)

@@ -10,6 +10,7 @@ ghost use Rattle.walking.specs.Places.{Arrived};
 ghost use Rattle.twins.specs.Answers.{twin_rows};
 ghost use Rattle.neighbours.specs.Counts.{repeats, children_in, told, neighbours_answer};
 
+use octets::Answer;
 use matching::Exact;
 use tables::{ComponentRow, Row, Tables};
 use twins::Spot;
@@ -30,12 +31,12 @@ impl From<Result<usize, usize>> for Neighbours {
     fn from(found: Result<usize, usize>) -> Neighbours {
         match found {
             Ok(twins) => Neighbours {
-                answer: octets::DONE,
+                answer: Answer::Done.number(),
                 place: 0,
                 twins,
             },
             Err(number) => Neighbours {
-                answer: octets::BAD_TABLE,
+                answer: Answer::BadTable.number(),
                 place: number,
                 twins: 0,
             },

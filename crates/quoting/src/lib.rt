@@ -7,7 +7,7 @@ ghost use Rattle.octets.specs.Runs.{only};
 ghost use Rattle.quoting.specs.Quoting.{plain, enclosed, wraps, quoted};
 ghost use Rattle.quoting.specs.Answers.{quote_answer, quote_out};
 
-use octets::Output;
+use octets::{Answer, Output};
 
 // Whether no byte is `:`, `;` or `,`. The loop has no branch, so that it becomes vector code.
 fn all_plain(value: &[u8]) -> bool
@@ -51,7 +51,7 @@ pub fn quote_special_chars(value: &[u8], out: &mut [u8]) -> Output
     ensures { (result ≡ quote_answer value.now (length out.old)) × (out.new ≡ quote_out value.now out.old) }
 {
     if value.len() > octets::LONGEST {
-        return Output::refusal(octets::TOO_LONG, 0);
+        return Output::refusal(Answer::TooLong, 0);
     }
     let needed = lay_quoted(value, &mut []);
     let told = octets::room_for(needed, out.len());

@@ -2,7 +2,7 @@
 #![tactic(auto)]
 
 ghost use Rattle.std.specs.Prelude.{◌≡◌, true, List, ℕ, ◌≤◌, length, eqb};
-ghost use Rattle.octets.specs.Answers.{longest, done};
+ghost use Rattle.octets.specs.Answers.{answer_number, longest, done};
 ghost use Rattle.octets.specs.Runs.{only};
 ghost use Rattle.unfolding.specs.Unfold.{unfolded};
 ghost use Rattle.tables.specs.Lent.{lent};
@@ -13,7 +13,7 @@ ghost use Rattle.reading.specs.NewTables.{is_zero};
 
 use lines::Fault;
 use nesting::{Counts, Refusal, Refused};
-use octets::Output;
+use octets::{Answer, Output};
 use tables::{ComponentRow, ParameterRow, PropertyRow, Row};
 
 mod zeros;
@@ -30,11 +30,11 @@ pub struct Reading {
 }
 
 impl Reading {
-    pub fn told(answer: u32, place: usize, length: usize, counts: Counts) -> Self
-        ensures { result ≡ told answer place length counts }
+    pub fn told(answer: Answer, place: usize, length: usize, counts: Counts) -> Self
+        ensures { result ≡ told (answer_number answer) place length counts }
     {
         Reading {
-            answer,
+            answer: answer.number(),
             place,
             length,
             components: counts.components,
@@ -44,8 +44,8 @@ impl Reading {
     }
 
     // A refusal has no counts.
-    pub fn refusal(answer: u32, place: usize, length: usize) -> Self
-        ensures { result ≡ refusal answer place length }
+    pub fn refusal(answer: Answer, place: usize, length: usize) -> Self
+        ensures { result ≡ refusal (answer_number answer) place length }
     {
         Reading::told(answer, place, length, Counts::new())
     }
@@ -54,17 +54,34 @@ impl Reading {
     pub fn is_done(self) -> bool
         ensures { result ≡ eqb self.answer done }
     {
-        self.answer == octets::DONE
+        self.answer == Answer::Done.number()
     }
 }
 
-fn fault_number(fault: Fault) -> u32
-    ensures { result ≡ fault_number fault }
+// A feed whose unfolding is refused has no counts.
+impl From<Output> for Reading {
+    ghost from_gives = { λ refused told. told ≡ refusal refused.answer refused.place refused.length };
+
+    fn from(refused: Output) -> Reading {
+        Reading {
+            answer: refused.answer,
+            place: refused.place,
+            length: refused.length,
+            components: 0,
+            properties: 0,
+            parameters: 0,
+        }
+    }
+}
+
+// What a fault is answered with.
+fn fault_answer(fault: Fault) -> Answer
+    ensures { answer_number result ≡ fault_number fault }
 {
     match fault {
-        Fault::ReservedKey => octets::RESERVED_KEY,
-        Fault::EmptyKey => octets::EMPTY_KEY,
-        Fault::StrayByte(_) => octets::STRAY_BYTE,
+        Fault::ReservedKey => Answer::ReservedKey,
+        Fault::EmptyKey => Answer::EmptyKey,
+        Fault::StrayByte(_) => Answer::StrayByte,
     }
 }
 
@@ -79,17 +96,18 @@ fn fault_place(fault: Fault, start: usize) -> usize
     }
 }
 
-fn number_of(r: Refusal) -> u32
-    ensures { result ≡ number_of r }
+// What a refusal is answered with.
+fn answer_of(r: Refusal) -> Answer
+    ensures { answer_number result ≡ number_of r }
 {
     match r {
-        Refusal::BadBegin => octets::BAD_BEGIN,
-        Refusal::TooDeep => octets::TOO_DEEP,
-        Refusal::BadEnd => octets::BAD_END,
-        Refusal::Outside => octets::OUTSIDE,
-        Refusal::Line(fault) => fault_number(fault),
-        Refusal::Unclosed => octets::UNCLOSED,
-        Refusal::NoComponent => octets::NO_COMPONENT,
+        Refusal::BadBegin => Answer::BadBegin,
+        Refusal::TooDeep => Answer::TooDeep,
+        Refusal::BadEnd => Answer::BadEnd,
+        Refusal::Outside => Answer::Outside,
+        Refusal::Line(fault) => fault_answer(fault),
+        Refusal::Unclosed => Answer::Unclosed,
+        Refusal::NoComponent => Answer::NoComponent,
     }
 }
 
@@ -135,12 +153,12 @@ pub fn unfold_feed(feed: &[u8], text: &mut [u8]) -> Output
     ensures text_after { text.new ≡ text_after feed.now text.old }
 {
     if octets::LONGEST < feed.len() {
-        return Output::refusal(octets::TOO_LONG, 0);
+        return Output::refusal(Answer::TooLong, 0);
     }
     let length = unfold_where_it_fits(feed, text);
     if text.len() < length {
         return Output {
-            answer: octets::NO_TEXT_ROOM,
+            answer: Answer::NoTextRoom.number(),
             place: 0,
             length,
         };
@@ -154,9 +172,9 @@ fn tell_outcome(outcome: Result<Counts, Refused>, size: usize) -> Reading
     ensures { result ≡ answered outcome size (λ counts. done) }
 {
     match outcome {
-        Ok(counts) => Reading::told(octets::DONE, 0, size, counts),
+        Ok(counts) => Reading::told(Answer::Done, 0, size, counts),
         Err(Refused { refusal, from }) => {
-            Reading::refusal(number_of(refusal), place_of(refusal, from), size)
+            Reading::refusal(answer_of(refusal), place_of(refusal, from), size)
         }
     }
 }
@@ -178,7 +196,7 @@ fn ask_room(told: Reading, components: &[u32], properties: &[u32], parameters: &
         return told;
     }
     Reading {
-        answer: octets::NO_ROOM,
+        answer: Answer::NoRoom.number(),
         ..told
     }
 }
@@ -190,7 +208,7 @@ pub fn measure_components(feed: &[u8], text: &mut [u8]) -> Reading
 {
     let unfolded = unfold_feed(feed, text);
     if !unfolded.is_done() {
-        return Reading::refusal(unfolded.answer, unfolded.place, unfolded.length);
+        return Reading::from(unfolded);
     }
     measure_text(&text[..unfolded.length])
 }
@@ -272,7 +290,7 @@ pub fn fill_components(
         ≡ left_filled (lent text.now components.old properties.old parameters.old) }
 {
     if octets::LONGEST < text.len() {
-        return Reading::refusal(octets::TOO_LONG, 0, 0);
+        return Reading::refusal(Answer::TooLong, 0, 0);
     }
     if are_new(text.len(), components, properties, parameters) {
         return fill_new(text, components, properties, parameters);
@@ -294,7 +312,7 @@ pub fn read_components(
 {
     let unfolded = unfold_feed(feed, text);
     if !unfolded.is_done() {
-        return Reading::refusal(unfolded.answer, unfolded.place, unfolded.length);
+        return Reading::from(unfolded);
     }
     fill_components(&text[..unfolded.length], components, properties, parameters)
 }

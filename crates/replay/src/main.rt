@@ -75,7 +75,7 @@ impl<'a> Buffers<'a> {
             return Ok(true);
         };
         let done = spelling::answer(*part, case, self.text, &mut self.room, self.out);
-        if done.answer == octets::DONE {
+        if done.is_done() {
             say(rt, octets::view(self.out, 0, done.length))?;
         } else {
             // The line found no room.

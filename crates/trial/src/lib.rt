@@ -3,7 +3,7 @@
 
 ghost use Rattle.std.specs.Prelude.{◌+◌, ◌<◌};
 
-use octets::Output;
+use octets::{Answer, Output};
 use reading::Reading;
 use std::io::Read;
 use std::{fmt, io};
@@ -97,7 +97,7 @@ impl Room<'_> {
 
     // What a reading left in a text and here: nothing where it was refused.
     pub fn tables<'a>(&'a self, done: Reading, text: &'a [u8]) -> Option<Tables<'a>> {
-        if done.answer != octets::DONE {
+        if !done.is_done() {
             return None;
         }
         Some(Tables {

@@ -13,6 +13,7 @@ ghost use Rattle.matching.specs.Alike.{alike, same_property_by};
 ghost use Rattle.twins.specs.Answers.{told, rows_alike_by, compared_by, twins_answer, loose_twins_answer};
 ghost use Rattle.twins.specs.Matched.{at_row, start_at, spot_in, Headed, Matched};
 
+use octets::Answer;
 use matching::{AsText, Exact, Side, Values};
 use tables::{ComponentRow, PropertyRow, Row, Tables};
 use walking::{Cursor, Walk, Window};
@@ -32,12 +33,12 @@ impl From<Result<bool, usize>> for Compared {
     fn from(found: Result<bool, usize>) -> Compared {
         match found {
             Ok(alike) => Compared {
-                answer: octets::DONE,
+                answer: Answer::Done.number(),
                 place: 0,
                 twins: u32::from(alike),
             },
             Err(number) => Compared {
-                answer: octets::BAD_TABLE,
+                answer: Answer::BadTable.number(),
                 place: number,
                 twins: 0,
             },

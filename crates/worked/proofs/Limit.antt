@@ -7,13 +7,13 @@ use mathlib.Core.List.{List, [], ◌∷◌}
 use lib.ListN.{length}
 use lib.Dec.{leb}
 use borrow.Author.Tests.{le-leb, lt-leb}
+use Rattle.std.specs.Prelude.{None, Ok}
 use Rattle.octets.specs.Choice.{pick}
 use Rattle.octets.specs.Answers.{output, out_after}
 use Rattle.octets.specs.Words.{same_bytes}
 use Rattle.octets.specs.declared.Output.{Output}
 use Rattle.unfolding.specs.Unfold.{unfolded}
 use Rattle.tables.specs.Lent.{Lent, broken_in}
-use Rattle.tables.specs.declared.Found.TheVariants.{Nothing}
 use Rattle.reading.specs.Answers.{measure_text, read_text, reading_of, measuring_of, filling_of, text_after}
 use Rattle.reading.specs.Lent.{room_in, read_into, left, fill_from, left_filled}
 use Rattle.folding.specs.Answers.{line_answer, fold_answer, fold_out}
@@ -23,7 +23,6 @@ use Rattle.escapes.specs.Answers.{text_answer, text_out, value_answer, value_out
 use Rattle.escapes.specs.Loose.{strictly_read, same_text}
 use Rattle.escapes.specs.declared.Mode.{Mode}
 use Rattle.writable.specs.WritingRule.{judged_in}
-use Rattle.writable.specs.declared.Judged.{Judged}
 use Rattle.writing.specs.Answers.{written_in, write_answer, write_out}
 use Rattle.worked.specs.Cases.{six_numbers, three_numbers}
 
@@ -134,7 +133,7 @@ module _ (v w : List ℕ) where
       go false = refl
 
 -- the writer: behind 14, 15 and 19, and before 13: "then 1, 13"
-module _ (b : Lent) (old : List ℕ) (sound : broken_in b ≡ Nothing) (writable : judged_in b ≡ Judged.Writable) (over : 1048576 < length (written_in b)) where
+module _ (b : Lent) (old : List ℕ) (sound : broken_in b ≡ None) (writable : judged_in b ≡ Ok tt) (over : 1048576 < length (written_in b)) where
   pub output_too_long : three_numbers (write_answer b (length old)) ≡ 1 ∷ 0 ∷ 0 ∷ []
   unfolding write_answer
   output_too_long = rw (sound, writable, lt-leb (length (written_in b)) 1048576 over)

@@ -1,7 +1,7 @@
 -- Serves laws only. What a worked case can say, when it holds, and which cases of a table do not. The cases themselves are in the other files: small inputs with what
 -- documents 01 and 02 say of them, written by hand, so that a reader can hold each against these alone.
 -- Assumes nothing.
-use Rattle.std.specs.Prelude.{ℕ, zero, suc, ◌+◌, ◌*◌, Bool, ◌&&◌, replicate, eqb}
+use Rattle.std.specs.Prelude.{ℕ, zero, suc, ◌+◌, ◌*◌, Bool, ◌&&◌, replicate, eqb, Option, Some, None}
 use Prim.Native.String as strings
 use mathlib.Core.List.{List, [], ◌∷◌, ◌++◌}
 use Rattle.std.proofs.Math.ListN.{length}
@@ -11,15 +11,11 @@ use Rattle.octets.specs.Laid.{laid}
 use Rattle.octets.specs.Words.{same_bytes}
 use Rattle.octets.specs.Views.{viewed}
 use Rattle.octets.specs.Keys.{key_of}
-use Rattle.octets.specs.declared.Key.{Key}
-use Rattle.octets.specs.declared.Key.TheVariants.{Reserved, Run}
 use Rattle.octets.specs.declared.Output.{Output}
 use Rattle.unfolding.specs.Unfold.{unfolded}
 use Rattle.parameters.specs.Parameter.{front_of}
 use Rattle.parameters.specs.declared.Value.{Value}
 use Rattle.parameters.specs.declared.Value.TheVariants.{Absent, Present}
-use Rattle.parameters.specs.declared.Front.{Front}
-use Rattle.parameters.specs.declared.Front.TheVariants.{NoParameter, Found}
 use Rattle.tables.specs.Lent.{Lent, lent}
 use Rattle.reading.specs.Answers.{measuring_of, text_after}
 use Rattle.reading.specs.Lent.{read_into, left, fill_from, left_filled}
@@ -159,17 +155,17 @@ compared_numbers c = c.answer ∷ c.place ∷ c.twins ∷ []
 abbrev pub repeat_numbers : Neighbours → List ℕ
 repeat_numbers n = n.answer ∷ n.place ∷ n.twins ∷ []
 
-abbrev pub key_numbers : Key → List ℕ
-key_numbers Reserved = []
-key_numbers (Run n) = n ∷ []
+abbrev pub key_numbers : Option ℕ → List ℕ
+key_numbers None = []
+key_numbers (Some n) = n ∷ []
 
 abbrev pub value_numbers : Value → List ℕ → List ℕ
 value_numbers Absent rest = 0 ∷ 0 ∷ 0 ∷ rest
 value_numbers (Present s) rest = 1 ∷ s.start ∷ s.len ∷ rest
 
-abbrev pub front_numbers : Front → List ℕ
-front_numbers NoParameter = []
-front_numbers (Found p) = p.key.start ∷ p.key.len ∷ value_numbers p.value (p.used ∷ [])
+abbrev pub front_numbers : Option Param → List ℕ
+front_numbers None = []
+front_numbers (Some p) = p.key.start ∷ p.key.len ∷ value_numbers p.value (p.used ∷ [])
 
 abbrev pub same_lent : Lent → Lent → Bool
 same_lent a b =

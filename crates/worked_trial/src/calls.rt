@@ -1,8 +1,8 @@
 // One function for each public call that has more to say than its output. It prints the numbers that are answered, and what is left in the buffers.
 use cases::fields::Case;
 use cases::lent::{Left, Shown, mark_room, say_room};
-use octets::{Key, Output};
-use parameters::{Front, Param, Value};
+use octets::Output;
+use parameters::{Param, Value};
 use std::io;
 use trial::{Numbers, Room, Tables};
 
@@ -66,14 +66,14 @@ pub fn view(rt: &impl Print, case: Case, text: &[u8]) -> io::Result<()> {
 // How many bytes the key of a line has is printed, or that it is refused.
 pub fn key(rt: &impl Print, line: &[u8]) -> io::Result<()> {
     match octets::property_key(line) {
-        Key::Reserved => print!(rt; " refused"),
-        Key::Run(n) => print!(rt; " {n}"),
+        None => print!(rt; " refused"),
+        Some(n) => print!(rt; " {n}"),
     }
 }
 
 // The six numbers of the parameter at the front are printed, or that there is none.
 pub fn parameter(rt: &impl Print, rest: &[u8]) -> io::Result<()> {
-    let Front::Found(Param { key, value, used }) = parameters::parameter(rest) else {
+    let Some(Param { key, value, used }) = parameters::parameter(rest) else {
         return print!(rt; " none");
     };
     print!(rt; " {} {}", key.start, key.len)?;

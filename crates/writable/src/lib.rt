@@ -13,7 +13,7 @@ ghost use Rattle.writable.specs.WritingRule.{name_fits, key_fits, no_break, pres
 ghost use Rattle.writable.specs.declared.Fault.{Fault};
 ghost use Rattle.writable.specs.Views.{bytes_of};
 
-use octets::{Capital, Class, Common, Output};
+use octets::{Answer, Capital, Class, Common, Output};
 use tables::{ComponentRow, ParameterRow, PropertyRow, Row, Tables};
 
 // Why a row cannot be written.
@@ -35,11 +35,11 @@ impl From<Unfit> for Output {
     ghost from_gives = { λ unfit told. told ≡ output (number_of unfit.fault) unfit.row 0 };
 
     fn from(unfit: Unfit) -> Output {
-        let number = match unfit.fault {
-            Fault::Unwritable => octets::UNWRITABLE,
-            Fault::NotUtf8 => octets::NOT_UTF8,
+        let answer = match unfit.fault {
+            Fault::Unwritable => Answer::Unwritable,
+            Fault::NotUtf8 => Answer::NotUtf8,
         };
-        Output::refusal(number, unfit.row)
+        Output::refusal(answer, unfit.row)
     }
 }
 

@@ -35,7 +35,7 @@ fn say_kept(rt: &impl Print, part: &str, bytes: &[u8]) -> io::Result<()> {
 // The three numbers, and whether the buffer is as it was, behind what was written.
 fn say_numbers(rt: &impl Print, o: Output, out: &[u8]) -> io::Result<()> {
     print!(rt; "{}", Numbers(o))?;
-    if o.answer != octets::DONE {
+    if !o.is_done() {
         return say_kept(rt, "buffer", out);
     }
     let end = o.length.min(out.len());
@@ -61,7 +61,7 @@ fn measure(rt: &impl Print, case: Case, text: &[u8], out: &mut [u8]) -> io::Resu
 fn write(rt: &impl Print, case: Case, text: &[u8], out: &mut [u8]) -> io::Result<()> {
     let o = write_tables(case, text, out);
     say_numbers(rt, o, out)?;
-    if o.answer == octets::DONE {
+    if o.is_done() {
         say(rt, octets::view(out, 0, o.length))?;
     }
     Ok(())

@@ -19,7 +19,7 @@ ghost use Rattle.writing.specs.Places.{WroteHead, Wrote, line_in, lines_in};
 ghost use Rattle.writing.specs.Lengths.{marks_length, line_length};
 
 use checking::Checked;
-use octets::Output;
+use octets::{Answer, Output};
 use printing::{Counted, Laid, Line, Printed};
 use tables::{ComponentRow, PropertyRow, Row, Tables};
 use walking::{Cursor, Walk, Window};
@@ -219,7 +219,7 @@ fn write_fitting(checked: &Checked, out: &mut [u8]) -> Output
 {
     let needed = count_rows(checked);
     if octets::LONGEST < needed {
-        return Output::refusal(octets::TOO_LONG, 0);
+        return Output::refusal(Answer::TooLong, 0);
     }
     let answer = octets::room_for(needed, out.len());
     if !answer.is_done() {
@@ -233,7 +233,7 @@ fn write_fitting(checked: &Checked, out: &mut [u8]) -> Output
 fn judge<'a>(tables: &Tables<'a>) -> Result<Checked<'a>, Output>
     ensures { MatchResult result (λ checked. Judged tables.now checked.tables) (λ refusal. Refused (held tables.now) refusal) }
 {
-    let checked = checking::check(tables).map_err(|row| Output::refusal(octets::BAD_TABLE, row))?;
+    let checked = checking::check(tables).map_err(|row| Output::refusal(Answer::BadTable, row))?;
     writable::judge(tables)?;
     Ok(checked)
 }
