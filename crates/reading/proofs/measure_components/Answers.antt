@@ -10,7 +10,7 @@ use Rattle.reading.proofs.measure_components.Goals as goal
 pub returns-then-not-is_done-clause-value : goal.returns-then-not-is_done-clause-value
 unfolding measuring_of
 returns-then-not-is_done-clause-value c =
-    c.refusal.ensures
+    c.from.ensures
     ∙ not_unfolded c.args.feed.now (length c.args.text.now) _ c.unfold_feed-unfolded.ensures.value (eqb-false _ _ (sym c.is_done.ensures ∙ c.if-not-is_done.true))
 
 pub measure_text-requires : goal.measure_text-requires

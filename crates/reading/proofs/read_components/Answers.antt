@@ -11,13 +11,13 @@ pub returns-then-not-is_done-clause-value : goal.returns-then-not-is_done-clause
 returns-then-not-is_done-clause-value c =
     let b = lent c.args.text.now c.args.components.now c.args.properties.now c.args.parameters.now in
     let u = c.unfold_feed-unfolded in
-    (unread_unfolded c.args.feed.now b u.ensures.value (eqb-false _ _ (sym c.is_done.ensures ∙ c.if-not-is_done.true)) c.refusal.ensures u.ensures.text_after).0
+    (unread_unfolded c.args.feed.now b u.ensures.value (eqb-false _ _ (sym c.is_done.ensures ∙ c.if-not-is_done.true)) c.from.ensures u.ensures.text_after).0
 
 pub returns-then-not-is_done-clause-lent_after : goal.returns-then-not-is_done-clause-lent_after
 returns-then-not-is_done-clause-lent_after c =
     let b = lent c.args.text.now c.args.components.now c.args.properties.now c.args.parameters.now in
     let u = c.unfold_feed-unfolded in
-    (unread_unfolded c.args.feed.now b u.ensures.value (eqb-false _ _ (sym c.is_done.ensures ∙ c.if-not-is_done.true)) c.refusal.ensures u.ensures.text_after).1
+    (unread_unfolded c.args.feed.now b u.ensures.value (eqb-false _ _ (sym c.is_done.ensures ∙ c.if-not-is_done.true)) c.from.ensures u.ensures.text_after).1
 
 pub returns-clause-value : goal.returns-clause-value
 returns-clause-value c =
