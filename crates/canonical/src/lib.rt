@@ -5,8 +5,8 @@ ghost use Rattle.std.specs.Prelude.{ℕ, ◌<◌};
 
 use octets::{Output, Span};
 use parameters::{Param, Value};
-use tables::{ParameterRow, PropertyRow};
-use trial::{Room, Tables};
+use tables::{ComponentRow, ParameterRow, PropertyRow, Row, Tables};
+use trial::Room;
 
 // A line that is laid piece by piece over the front of a buffer, as far as it goes, and is counted in full.
 pub struct Line<'a> {
@@ -154,8 +154,8 @@ fn lay_parameter(text: &[u8], row: ParameterRow, line: &mut Line) {
 
 // Lays the parameters from row `from` on, up to the first of another property.
 fn lay_parameters(t: Tables, property: usize, from: usize, line: &mut Line) {
-    for i in from..tables::parameter_rows(t.parameters) {
-        let row = tables::parameter_at(t.parameters, i);
+    for i in from..ParameterRow::count(t.parameters) {
+        let row = ParameterRow::at(t.parameters, i);
         if row.property as usize != property {
             return;
         }
@@ -182,16 +182,16 @@ fn first_of<F: Fn(usize) -> u32>(owner: usize, from: usize, rows: usize, owner_o
 
 // Lays the properties of a component with their parameters. Its own may stand behind those of its children.
 fn lay_properties(t: Tables, owner: usize, from: usize, line: &mut Line) {
-    let parameters = tables::parameter_rows(t.parameters);
+    let parameters = ParameterRow::count(t.parameters);
     let mut next: usize = 0;
-    for i in from..tables::property_rows(t.properties) {
-        let row = tables::property_at(t.properties, i);
+    for i in from..PropertyRow::count(t.properties) {
+        let row = PropertyRow::at(t.properties, i);
         if row.owner as usize == owner {
             next = first_of(
                 i,
                 next,
                 parameters,
-                |p| tables::property_of(t.parameters, p),
+                |p| ParameterRow::at(t.parameters, p).property,
             );
             lay_property(t.text, row, line);
             lay_parameters(t, i, next, line);
@@ -208,16 +208,16 @@ fn lay_ends(depth: usize, below: usize, line: &mut Line) {
 
 // Lays all components. They stand in the order of their BEGINs, so a row of no greater depth closes those before it.
 fn lay_components(t: Tables, line: &mut Line) {
-    let properties = tables::property_rows(t.properties);
+    let properties = PropertyRow::count(t.properties);
     // One more than the depth of the last component; a top component has depth 1.
     let mut below: usize = 1;
     let mut from: usize = 0;
-    for i in 0..tables::component_rows(t.components) {
-        let row = tables::component_at(t.components, i);
+    for i in 0..ComponentRow::count(t.components) {
+        let row = ComponentRow::at(t.components, i);
         let depth = row.depth as usize;
         lay_ends(depth, below, line);
         line.part(b" C =", t.text, row.name_start, row.name_len);
-        from = first_of(i, from, properties, |p| tables::owner_at(t.properties, p));
+        from = first_of(i, from, properties, |p| PropertyRow::at(t.properties, p).owner);
         lay_properties(t, i, from, line);
         below = depth + 1;
     }

@@ -1,7 +1,8 @@
 // A case is a line of fields with bars between them: the call, the name, and what the call is given. A field holds bytes, some as their numbers between angle
 // brackets, or numbers with a space between two.
 use arrayvec::ArrayVec;
-use trial::{Room, Tables};
+use tables::Tables;
+use trial::Room;
 
 #[derive(Clone, Copy)]
 pub struct Case<'a>(pub &'a [u8]);

@@ -3,6 +3,7 @@
 
 ghost use Rattle.std.specs.Prelude.{◌<◌};
 
+use tables::{ComponentRow, PropertyRow, Row};
 use escapes::Mode;
 use octets::Output;
 use reading::Reading;
@@ -20,8 +21,8 @@ fn lent<const ROOM: usize, F: FnOnce(&mut [u8]) -> Output>(call: F) -> Numbers<O
 
 // Fills rows for a component and a property.
 fn fill_front(text: &[u8]) -> Reading {
-    let mut components = [0u32; tables::COMPONENT_WORDS];
-    let mut properties = [0u32; tables::PROPERTY_WORDS];
+    let mut components = [0u32; ComponentRow::WORDS];
+    let mut properties = [0u32; PropertyRow::WORDS];
     reading::fill_components(text, &mut components, &mut properties, &mut [])
 }
 

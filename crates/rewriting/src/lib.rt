@@ -3,7 +3,8 @@
 
 use canonical::Line;
 use octets::Output;
-use trial::{Room, Tables};
+use tables::Tables;
+use trial::Room;
 
 // Lays the words of a case over a table, as far as it goes.
 fn take_words(case: &[u8], table: &mut [u32]) {

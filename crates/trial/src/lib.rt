@@ -3,11 +3,11 @@
 
 ghost use Rattle.std.specs.Prelude.{◌+◌, ◌<◌};
 
-use octets::{Answer, Output};
+use octets::Output;
 use reading::Reading;
 use std::io::Read;
 use std::{fmt, io};
-use tables::ComponentRow;
+use tables::{ComponentRow, ParameterRow, PropertyRow, Row, Tables};
 
 // Reads until the buffer is full or the input ends, and counts the bytes.
 pub fn read_full(input: &mut impl Read, out: &mut [u8]) -> io::Result<usize> {
@@ -63,15 +63,6 @@ impl fmt::Display for Numbers<Reading> {
     }
 }
 
-// What a reading fills, and the writer and the twin test look at.
-#[derive(Clone, Copy)]
-pub struct Tables<'a> {
-    pub text: &'a [u8],
-    pub components: &'a [u32],
-    pub properties: &'a [u32],
-    pub parameters: &'a [u32],
-}
-
 // The rows of the three tables, lent to be filled.
 #[derive(Drop)]
 pub struct Room<'a> {
@@ -102,9 +93,9 @@ impl Room<'_> {
         }
         Some(Tables {
             text: octets::view(text, 0, done.length),
-            components: rows(self.components, done.components, tables::COMPONENT_WORDS),
-            properties: rows(self.properties, done.properties, tables::PROPERTY_WORDS),
-            parameters: rows(self.parameters, done.parameters, tables::PARAMETER_WORDS),
+            components: rows(self.components, done.components, ComponentRow::WORDS),
+            properties: rows(self.properties, done.properties, PropertyRow::WORDS),
+            parameters: rows(self.parameters, done.parameters, ParameterRow::WORDS),
         })
     }
 }
@@ -162,13 +153,13 @@ pub fn nest_rows(depth: usize, table: &mut [u32]) -> &[u32] {
             name_start: 0,
             name_len: 1,
         };
-        tables::put_component(table, row as usize, c);
+        c.put(table, row as usize);
     }
-    rows(table, depth, tables::COMPONENT_WORDS)
+    rows(table, depth, ComponentRow::WORDS)
 }
 
 // The words of rows for one component more than is read.
-const DEEP_WORDS: usize = tables::COMPONENT_WORDS * (octets::DEEPEST + 1);
+const DEEP_WORDS: usize = ComponentRow::WORDS * (octets::DEEPEST + 1);
 
 // Reads so many components inside each other.
 pub fn read_nested(depth: usize) -> Reading {
@@ -191,8 +182,8 @@ pub const OVER: usize = octets::LONGEST + 1;
 
 // Reads a feed into rows for a component and a property.
 pub fn read_front(feed: &[u8], text: &mut [u8]) -> Reading {
-    let mut components = [0u32; tables::COMPONENT_WORDS];
-    let mut properties = [0u32; tables::PROPERTY_WORDS];
+    let mut components = [0u32; ComponentRow::WORDS];
+    let mut properties = [0u32; PropertyRow::WORDS];
     reading::read_components(feed, text, &mut components, &mut properties, &mut [])
 }
 

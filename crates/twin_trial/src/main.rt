@@ -5,8 +5,8 @@
 
 use cases::fields::{Case, lay_bytes, number};
 use std::io;
-use tables::ParameterRow;
-use trial::{OVER, Room, Tables};
+use tables::{ParameterRow, Row, Tables};
+use trial::{OVER, Room};
 use twins::Compared;
 
 // Room for all lines.
@@ -119,8 +119,8 @@ fn as_long(property: u32, length: u32) -> ParameterRow {
 // Lays the parameters of two properties, those of the second backwards.
 fn lay_crowd(parameters: &mut [u32]) {
     for n in 0..CROWD {
-        tables::put_parameter(parameters, n as usize, as_long(0, n));
-        tables::put_parameter(parameters, (CROWD + n) as usize, as_long(1, CROWD - 1 - n));
+        as_long(0, n).put(parameters, n as usize);
+        as_long(1, CROWD - 1 - n).put(parameters, (CROWD + n) as usize);
     }
 }
 
@@ -129,7 +129,7 @@ fn ask_crowd(rt: &impl Print, case: Case, change: &[u8]) -> io::Result<()> {
     let mut parameters = [0u32; 24_000];
     lay_crowd(&mut parameters);
     let length = (number(change, 1) & 0xffff_ffff) as u32;
-    tables::put_parameter(&mut parameters, number(change, 0), as_long(1, length));
+    as_long(1, length).put(&mut parameters, number(change, 0));
     let crowded = Tables {
         text: &[b'P'; 2000],
         components: &[tables::NO_PARENT, 1, 0, 1, tables::NO_PARENT, 1, 0, 1],

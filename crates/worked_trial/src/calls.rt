@@ -4,7 +4,8 @@ use cases::lent::{Left, Shown, mark_room, say_room};
 use octets::Output;
 use parameters::{Param, Value};
 use std::io;
-use trial::{Numbers, Room, Tables};
+use tables::Tables;
+use trial::{Numbers, Room};
 
 // The most words of a table, but for the deep ones.
 pub const WORDS: usize = 24;

@@ -4,7 +4,8 @@ use cases::fields::Case;
 use cases::lent::{Shown, front_mut, last, mark_bytes, mark_room};
 use octets::Output;
 use std::io;
-use trial::{Numbers, Room, Tables};
+use tables::Tables;
+use trial::{Numbers, Room};
 
 // The most bytes of a feed, and 65 rows.
 const DEEP: usize = 1024;

@@ -6,7 +6,8 @@ use cases::fields::{Case, lay_bytes};
 use cases::lent::front_mut;
 use octets::Output;
 use std::io;
-use trial::{Numbers, OVER, Tables, say};
+use tables::Tables;
+use trial::{Numbers, OVER, say};
 
 // Room for all lines.
 const LINES: usize = 65_536;
