@@ -74,7 +74,7 @@ pub struct Refused {
 }
 
 impl Refused {
-    pub fn new(refusal: Refusal, from: usize) -> Self
+    fn new(refusal: Refusal, from: usize) -> Self
         ensures { result ≡ refused_at refusal from }
     {
         Refused { refusal, from }
@@ -99,13 +99,13 @@ impl Open {
     }
 
     // How many are open.
-    pub fn depth(&self) -> usize
+    fn depth(&self) -> usize
         ensures { result ≡ length self.now }
     {
         self.depth
     }
 
-    pub fn innermost(&self) -> Option<Entry>
+    fn innermost(&self) -> Option<Entry>
         ensures { result ≡ innermost self.now }
     {
         if self.depth == 0 {
@@ -115,7 +115,7 @@ impl Open {
     }
 
     // The row of the innermost, or that there is none.
-    pub fn parent(&self) -> u32
+    fn parent(&self) -> u32
         ensures { result ≡ top self.now }
     {
         match self.innermost() {
@@ -124,7 +124,7 @@ impl Open {
         }
     }
 
-    pub fn push(&mut self, e: Entry)
+    fn push(&mut self, e: Entry)
         requires { length self.old < deepest }
         ensures { self.new ≡ e ∷ self.old }
     {
@@ -132,7 +132,7 @@ impl Open {
         self.depth += 1;
     }
 
-    pub fn pop(&mut self)
+    fn pop(&mut self)
         ensures { self.new ≡ closed self.old }
     {
         self.depth = self.depth.saturating_sub(1);

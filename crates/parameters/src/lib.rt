@@ -23,6 +23,7 @@ pub enum Form {
     Listed(usize),
 }
 
+// An enum and no Option: docs/SPECIFICATION.md, "The shape each place takes", fixes it.
 #[derive(Clone, Copy)]
 pub enum Value {
     Absent,
