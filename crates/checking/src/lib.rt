@@ -115,6 +115,7 @@ fn broken_parameter(size: usize, properties: usize, first: usize, table: &[u32])
     requires { first + length table.now / parameter_size ≤ most }
     ensures { result ≡ broken_parameter size properties first 0 (parameters_in table.now) }
 {
+    // A loop of its own, as a row here is tested with the one before it and a property row is not.
     let mut before: u32 = 0;
     for row in 0..ParameterRow::count(table) {
         let p = ParameterRow::at(table, row);
