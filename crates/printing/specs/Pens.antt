@@ -9,7 +9,7 @@ use Rattle.tables.specs.Trees.{Parameter}
 use Rattle.tables.specs.Lent.{parameters_in}
 use Rattle.tables.specs.Fronts.{front, belongs, own_parameters, own_property}
 use Rattle.tables.specs.declared.ParameterRow.{ParameterRow}
-use Rattle.printing.specs.Lines.{property_line}
+use Rattle.printing.specs.Lines.{closed_line, property_line}
 use Rattle.printing.specs.declared.Pen.{Pen}
 use Rattle.printing.specs.declared.Line.{Line}
 
@@ -38,3 +38,6 @@ own_of l = own_parameters l.tables.now.text.now l.number l.first (parameters_in 
 -- its line, before it is folded
 abbrev pub line_of : Line → List ℕ
 line_of l = property_line (own_property l.tables.now.text.now l.row l.number l.first (parameters_in l.tables.now.parameters.now))
+
+abbrev pub printed_line : Line → List ℕ
+printed_line l = closed_line (line_of l)

@@ -5,11 +5,11 @@ ghost use Rattle.std.specs.Prelude.{◌≡◌, ℕ, List, true, [], ◌∷◌, �
 ghost use Rattle.std.proofs.Common.{le_refl, zero-le};
 ghost use Rattle.octets.specs.Bytes.{cr, lf, colon, ascii};
 ghost use Rattle.octets.specs.Runs.{only};
-ghost use Rattle.octets.specs.Laid.{Lays};
+ghost use Rattle.octets.specs.Laid.{counted, Lays};
 ghost use Rattle.octets.specs.Views.{viewed};
 ghost use Rattle.tables.specs.Trees.{present, parameter_of};
-ghost use Rattle.printing.specs.Lines.{closed_line, value_text, parameter_text, parameters_text};
-ghost use Rattle.printing.specs.Pens.{Penned, key_of, value_of, own_of, behind, line_of};
+ghost use Rattle.printing.specs.Lines.{closed_line, begin_line, end_line, value_text, parameter_text, parameters_text};
+ghost use Rattle.printing.specs.Pens.{Penned, key_of, value_of, own_of, behind, line_of, printed_line};
 
 use folding::Column;
 use tables::{ParameterRow, PropertyRow, Row, Tables};
@@ -111,7 +111,7 @@ impl Pen {
 }
 
 // Where the bytes of a line go: over the buffer, or nowhere, where they are only counted.
-pub trait Sink {
+trait Sink {
     ghost seen: { List ℕ → List ℕ };
 
     fn lay(bytes: &[u8], out: &mut [u8], at: usize) -> usize
@@ -128,7 +128,7 @@ pub trait Sink {
 }
 
 // Over the buffer.
-pub struct Laid;
+struct Laid;
 
 impl Sink for Laid {
     ghost seen = { λ xs. xs };
@@ -155,7 +155,7 @@ impl Sink for Laid {
 }
 
 // Nowhere: what is laid is counted, and the buffer stays.
-pub struct Counted;
+struct Counted;
 
 impl Sink for Counted {
     ghost seen = { λ xs. [] };
@@ -179,14 +179,30 @@ impl Sink for Counted {
     }
 }
 
-// Lays the line that opens or closes a component: BEGIN or END with its colon, and the name.
-pub fn print_mark<S: Sink>(mark: &[u8], name: &[u8], out: &mut [u8]) -> usize
+// Lays the line that opens or closes a component.
+fn lay_mark<S: Sink>(mark: &[u8], name: &[u8], out: &mut [u8]) -> usize
     requires { only ascii mark.now ≡ true }
     ensures { Lays 0 (closed_line (mark.now ++ name.now)) (S.seen out.old) (S.seen out.new) result }
 {
     let marked = Pen::START.piece::<S>(mark, out);
     let end = marked.piece::<S>(name, out);
     end.close::<S>(out)
+}
+
+// Lays the line that opens or closes a component: BEGIN or END with its colon, and the name.
+pub fn print_mark(mark: &[u8], name: &[u8], out: &mut [u8]) -> usize
+    requires { only ascii mark.now ≡ true }
+    ensures { Lays 0 (closed_line (mark.now ++ name.now)) out.old out.new result }
+{
+    lay_mark::<Laid>(mark, name, out)
+}
+
+// How long the lines BEGIN and END of a component are.
+pub fn count_marks(name: &[u8]) -> usize
+    ensures { result ≡ counted (length (closed_line (begin_line name.now)) + length (closed_line (end_line name.now))) }
+{
+    let opened = lay_mark::<Counted>(b"BEGIN:", name, &mut []);
+    opened.saturating_add(lay_mark::<Counted>(b"END:", name, &mut []))
 }
 
 // A property to be laid: the tables, its row and the number of that, and the first parameter row that may be its own.
@@ -270,8 +286,9 @@ impl<'a> Line<'a> {
         listed.after::<S>(b':', self.value(), out)
     }
 
-    pub fn print<S: Sink>(&self, out: &mut [u8]) -> Printed
-        ensures lays { Lays 0 (closed_line (line_of self.now)) (S.seen out.old) (S.seen out.new) result.length }
+    // Lays the line and its end.
+    fn print<S: Sink>(&self, out: &mut [u8]) -> Printed
+        ensures lays { Lays 0 (printed_line self.now) (S.seen out.old) (S.seen out.new) result.length }
         ensures next_value { result.next ≡ behind self.now }
     {
         let next = self.next();
@@ -281,4 +298,20 @@ impl<'a> Line<'a> {
             next,
         }
     }
+}
+
+// Lays the line of a property.
+pub fn print_property(line: &Line, out: &mut [u8]) -> Printed
+    ensures lays { Lays 0 (printed_line line.now) out.old out.new result.length }
+    ensures next_value { result.next ≡ behind line.now }
+{
+    line.print::<Laid>(out)
+}
+
+// How long the line of a property is, and the row behind its parameters.
+pub fn count_property(line: &Line) -> Printed
+    ensures length_value { result.length ≡ counted (length (printed_line line.now)) }
+    ensures next_value { result.next ≡ behind line.now }
+{
+    line.print::<Counted>(&mut [])
 }

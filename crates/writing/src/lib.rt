@@ -13,14 +13,14 @@ ghost use Rattle.walking.specs.Walk.{held_before};
 ghost use Rattle.walking.specs.Totals.{total};
 ghost use Rattle.walking.specs.Places.{Owns, Arrived};
 ghost use Rattle.printing.specs.Lines.{closed_line, end_line};
-ghost use Rattle.printing.specs.Pens.{behind, line_of};
+ghost use Rattle.printing.specs.Pens.{behind, printed_line};
 ghost use Rattle.writing.specs.Answers.{by_length, written_in, write_answer, write_out, Judged, Refused};
 ghost use Rattle.writing.specs.Places.{WroteHead, Wrote, line_in, lines_in};
 ghost use Rattle.writing.specs.Lengths.{marks_length, line_length};
 
 use checking::Checked;
 use octets::{Answer, Output};
-use printing::{Counted, Laid, Line, Printed};
+use printing::{Line, Printed};
 use tables::{ComponentRow, PropertyRow, Row, Tables};
 use walking::{Cursor, Walk, Window};
 
@@ -62,7 +62,7 @@ fn write_mark(mark: &[u8], name: &[u8], out: &mut [u8], at: usize) -> usize
     ensures { Lays at (closed_line (mark.now ++ name.now)) out.old out.new result }
 {
     let from = at.min(out.len());
-    let length = printing::print_mark::<Laid>(mark, name, &mut out[from..]);
+    let length = printing::print_mark(mark, name, &mut out[from..]);
     at.saturating_add(length)
 }
 
@@ -70,7 +70,7 @@ fn write_mark(mark: &[u8], name: &[u8], out: &mut [u8], at: usize) -> usize
 fn line_at<'a>(walk: &'a Walk<'a>, number: usize, passed: usize) -> Line<'a>
     requires there { number < length (held walk.now.tables).properties / property_size }
     requires before { passed ≤ front (held_before number) (parameters_in (held walk.now.tables).parameters) }
-    ensures value { closed_line (line_of result) ≡ line_in (held walk.now.tables) number }
+    ensures value { printed_line result ≡ line_in (held walk.now.tables) number }
     ensures next_bound { behind result ≤ front (held_before (number + 1)) (parameters_in (held walk.now.tables).parameters) }
 {
     let tables = &walk.tables;
@@ -83,12 +83,12 @@ fn line_at<'a>(walk: &'a Walk<'a>, number: usize, passed: usize) -> Line<'a>
 }
 
 // Lays the line of a property behind what is printed, over the front of what is left of the output.
-fn write_line(line: &Line, printed: Printed, out: &mut [u8]) -> Printed
-    ensures lays { Lays printed.length (closed_line (line_of line.now)) out.old out.new result.length }
+fn write_property(line: &Line, printed: Printed, out: &mut [u8]) -> Printed
+    ensures lays { Lays printed.length (printed_line line.now) out.old out.new result.length }
     ensures next_value { result.next ≡ behind line.now }
 {
     let from = printed.length.min(out.len());
-    let own = line.print::<Laid>(&mut out[from..]);
+    let own = printing::print_property(line, &mut out[from..]);
     Printed {
         length: printed.length.saturating_add(own.length),
         next: own.next,
@@ -106,7 +106,7 @@ fn write_properties(walk: &Walk, row: usize, window: Window, out: &mut [u8], at:
     };
     for number in window.first..window.last {
         if PropertyRow::at(walk.tables.properties, number).owner as usize == row {
-            printed = write_line(&line_at(&*walk, number, printed.next), printed, out);
+            printed = write_property(&line_at(&*walk, number, printed.next), printed, out);
         }
     }
     printed.length
@@ -174,13 +174,10 @@ fn write_trees(walk: &Walk, out: &mut [u8]) -> usize
 fn count_marks(tables: &Tables) -> usize
     ensures { result ≡ counted (total (marks_length (held tables.now)) 0 (length (components_in (held tables.now).components))) }
 {
-    let mut none = [0u8; 0];
     let mut at: usize = 0;
     for row in 0..ComponentRow::count(tables.components) {
         let name = name_of(tables, row);
-        let opened = printing::print_mark::<Counted>(b"BEGIN:", name, &mut none);
-        let closed = printing::print_mark::<Counted>(b"END:", name, &mut none);
-        at = at.saturating_add(opened).saturating_add(closed);
+        at = at.saturating_add(printing::count_marks(name));
     }
     at
 }
@@ -189,13 +186,12 @@ fn count_marks(tables: &Tables) -> usize
 fn count_lines(walk: &Walk, at: usize) -> usize
     ensures { result ≡ counted (at + total (line_length (held walk.now.tables)) 0 (length (properties_in (held walk.now.tables).properties))) }
 {
-    let mut none = [0u8; 0];
     let mut printed = Printed {
         length: at,
         next: 0,
     };
     for number in 0..PropertyRow::count(walk.tables.properties) {
-        let own = line_at(&*walk, number, printed.next).print::<Counted>(&mut none);
+        let own = printing::count_property(&line_at(&*walk, number, printed.next));
         printed = Printed {
             length: printed.length.saturating_add(own.length),
             next: own.next,

@@ -16,9 +16,9 @@ loop-number-init c = (zero-le, no_row _ c.args.at (omega arith))
 
 pub loop-number-preserved : goal.loop-number-preserved
 loop-number-preserved c =
-    let own = c.print-own.ensures in (
+    let own = c.count_property-own.ensures in (
       omega (arith, own.next_value, c.line_at.ensures.next_bound),
-      one_row _ c.args.at c.loop-number.number c.loop-number.invariant.1 (omega (arith, c.saturating_add.ensures, own.lays.count, ap (length {A = ℕ}) c.line_at.ensures.value)),
+      one_row _ c.args.at c.loop-number.number c.loop-number.invariant.1 (omega (arith, c.saturating_add.ensures, own.length_value, ap (length {A = ℕ}) c.line_at.ensures.value)),
     )
 
 pub returns : goal.returns

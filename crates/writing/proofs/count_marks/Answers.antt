@@ -1,16 +1,12 @@
--- `writing::count_marks`: BEGIN and END are ASCII, and each row has both.
+-- `writing::count_marks`: each row has both lines.
 use native.Mathlib.Omega.{arith}
 use mathlib.Core.Path.{◌≡◌, ap}
-use mathlib.Core.List.{List}
-use Prim.Native.Nat.{ℕ}
 use lib.ListN.{length}
 use Rattle.tables.specs.Rows.{component_size, component_at}
 use Rattle.tables.specs.Lent.{held, components_in}
 use Rattle.tables.proofs.Laws.{length_rows}
 use Rattle.walking.specs.Totals.{total}
-use Rattle.printing.specs.Lines.{closed_line, begin_line, end_line}
-use Rattle.printing.proofs.Pens.{begin_mark, end_mark}
-use Rattle.writing.specs.Lengths.{marks_length}
+use Rattle.writing.specs.Lengths.{mark_lengths, marks_length}
 use Rattle.writing.proofs.Lengths.{no_row, one_row}
 use Rattle.writing.proofs.count_marks.Goals as goal
 
@@ -20,23 +16,9 @@ loop-row-init c = no_row _ 0 (omega arith)
 pub name_of-name-requires : goal.name_of-name-requires
 name_of-name-requires c = omega (arith, c.count-row-end.ensures, length_rows component_size component_at c.args.tables.now.components.now)
 
-pub print_mark-opened-requires : goal.print_mark-opened-requires
-print_mark-opened-requires c = begin_mark
-
-pub print_mark-closed-requires : goal.print_mark-closed-requires
-print_mark-closed-requires c = end_mark
-
 pub loop-row-preserved : goal.loop-row-preserved
 loop-row-preserved c =
-    one_row _ 0 c.loop-row.row c.loop-row.invariant (omega (
-      arith,
-      c.print_mark-opened.ensures.count,
-      c.print_mark-closed.ensures.count,
-      c.saturating_add-at.ensures,
-      c.saturating_add.ensures,
-      ap (λ (n : List ℕ). length (closed_line (begin_line n))) c.name_of-name.ensures,
-      ap (λ (n : List ℕ). length (closed_line (end_line n))) c.name_of-name.ensures,
-    ))
+    one_row _ 0 c.loop-row.row c.loop-row.invariant (omega (arith, c.saturating_add-at.ensures, c.count_marks.ensures, ap mark_lengths c.name_of-name.ensures))
 
 pub returns : goal.returns
 returns c =

@@ -30,7 +30,7 @@ loop-number-preserved c =
     elim c.if-at-row.branch [
       | then-at-row w ↦ rw (w.out-is, w.printed-is)
           (line_laid passing c.loop-number-test.true p here (sym (ap (λ (p : PropertyRow). p.owner) c.at.ensures) ∙ w.if-at-row.true) (omega arith)
-          (from_as w.line_at.ensures.value w.write_line-printed.ensures.lays) (omega (arith, w.write_line-printed.ensures.next_value, w.line_at.ensures.next_bound)))
+          (from_as w.line_at.ensures.value w.write_property-printed.ensures.lays) (omega (arith, w.write_property-printed.ensures.next_value, w.line_at.ensures.next_bound)))
       | else-at-row w ↦ rw (w.out-is, w.printed-is)
           (line_passed passing c.loop-number-test.true p here (λ o. w.if-at-row.false (ap (λ (p : PropertyRow). p.owner) c.at.ensures ∙ o)))
     ]

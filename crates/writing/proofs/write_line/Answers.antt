@@ -1,6 +1,0 @@
--- `writing::write_line`: the rest of the output is lent.
-use Rattle.writing.proofs.Laws.{lent_rest}
-use Rattle.writing.proofs.write_line.Goals as goal
-
-pub returns-clause-lays : goal.returns-clause-lays
-returns-clause-lays c = lent_rest c.min-from.ensures c.print-own.ensures.lays c.saturating_add.ensures
