@@ -10,7 +10,7 @@ ghost use Rattle.comparing.specs.Pieces.{same_key, same_parameter};
 ghost use Rattle.comparing.specs.Runs.{parameter_in, many_in, same_runs, settled, agreeing_front, without_agreeing_back};
 
 use octets::Span;
-use tables::ParameterRow;
+use tables::{ParameterRow, Row};
 
 // A start and a length as a row has them.
 pub fn span(start: u32, len: u32) -> Span
@@ -73,8 +73,8 @@ pub fn same_rows(text: &[u8], parameters: &[u32], p: usize, q: usize) -> bool
 {
     same_parameter(
         text,
-        tables::parameter_at(parameters, p),
-        tables::parameter_at(parameters, q),
+        ParameterRow::at(parameters, p),
+        ParameterRow::at(parameters, q),
     )
 }
 

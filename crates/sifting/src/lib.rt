@@ -13,7 +13,7 @@ ghost use Rattle.sifting.specs.Tallies.{Empty, Left};
 use arrayvec::ArrayVec;
 use comparing::Runs;
 use std::cmp::Ordering;
-use tables::ParameterRow;
+use tables::{ParameterRow, Row};
 
 // How many rows a shelf holds.
 const SHELF: usize = 768;
@@ -70,8 +70,8 @@ fn row_before(text: &[u8], parameters: &[u32], p: usize, q: usize) -> bool
 {
     parameter_order(
         text,
-        tables::parameter_at(parameters, p),
-        tables::parameter_at(parameters, q),
+        ParameterRow::at(parameters, p),
+        ParameterRow::at(parameters, q),
     )
     .is_lt()
 }
