@@ -171,9 +171,9 @@ impl Side {
 
 // Whether two components have the same properties, in order; all of each stand in its window.
 pub fn same_properties<V: Values>(tables: &Tables, a: Side, b: Side) -> bool
-    requires rising { RisingParameters (parameters_in tables.now.parameters.now) }
-    requires a_owns { Owns (properties_in tables.now.properties.now) (parameters_in tables.now.parameters.now) a.row a.window }
-    requires b_owns { Owns (properties_in tables.now.properties.now) (parameters_in tables.now.parameters.now) b.row b.window }
+    requires { RisingParameters (parameters_in tables.now.parameters.now)
+        × Owns (properties_in tables.now.properties.now) (parameters_in tables.now.parameters.now) a.row a.window
+        × Owns (properties_in tables.now.properties.now) (parameters_in tables.now.parameters.now) b.row b.window }
     ensures { result ≡ alike (same_property_by V.test same_parameters)
         (properties_of tables.now.text.now (properties_in tables.now.properties.now) (parameters_in tables.now.parameters.now) a.row)
         (properties_of tables.now.text.now (properties_in tables.now.properties.now) (parameters_in tables.now.parameters.now) b.row) }

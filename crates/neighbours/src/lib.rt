@@ -103,6 +103,7 @@ fn count_children(walk: &Walk, parent: usize) -> usize
     let mut next = spot_behind(&walk.tables, before);
     let mut with_order = None;
     let mut found: usize = 0;
+    // A walk: where the next child stands is known only behind the subtree of this one.
     while next.row < last {
         found += usize::from(compare(walk, &mut with_order, before, next));
         before = next;

@@ -18,7 +18,7 @@ use Rattle.tables.specs.Sizes.{component_count}
 use Rattle.tables.specs.declared.ComponentRow.{ComponentRow}
 use Rattle.tables.proofs.Nested.{depth_of}
 use Rattle.walking.specs.Walk.{end_of, Reached, Holds}
-use Rattle.walking.specs.Places.{Ruled, Owns, Arrived}
+use Rattle.walking.specs.Places.{Ruled, Arrived}
 use Rattle.walking.specs.declared.Cursor.{Cursor}
 use Rattle.walking.specs.declared.Window.{Window}
 use Rattle.walking.proofs.Rows.{name_is}
@@ -27,7 +27,6 @@ use Rattle.walking.proofs.Sizes.{tree_components}
 use Rattle.walking.proofs.Along.{comps, props, params, trees_from, first_ahead, none_ahead, onward, Children, begin_children, children_ahead, behind}
 use Rattle.comparing.specs.Pieces.{same_name, same_parameters}
 use Rattle.matching.specs.Alike.{alike, same_property_by, same_trees_by}
-use Rattle.matching.specs.declared.Side.{Side}
 use Rattle.matching.proofs.Alike.{alone, first_then, none_both, none_first, none_second, other_count}
 use Rattle.twins.specs.Matched.{at_row, spot_in, Ended, Behind, alike_heads, alike_trees}
 use Rattle.twins.specs.declared.Spot.{Spot}
@@ -42,10 +41,6 @@ names_are text words one other h k e f p = rw (← name_is text words one h e, �
 -- a window tells where the subtree ends
 pub ended_in : (b : Lent) {row : ℕ} {w : Window} {p : Spot} → Holds (comps b) (props b) (params b) row w → p ≡ spot_in w → Ended b row row p
 ended_in b h x = rw x record { end = h.end; reached = h.reached }
-
--- and it holds all properties
-pub owns : (b : Lent) {row : ℕ} {a : Side} → (a.row ≡ row) × Holds (comps b) (props b) (params b) row a.window → Owns (props b) (params b) a.row a.window
-owns b so = rw so.0 record { components = comps b; holds = so.1 }
 
 -- a walk that has come to the end of a subtree
 ended_at : {b : Lent} {number row : ℕ} {cursor : Cursor} → row ≡ end_of (comps b) number → Reached (props b) (params b) cursor (end_of (comps b) number)

@@ -134,6 +134,7 @@ fn same_component<V: Values>(
     let other_last = walking::children_end(level, second.row + 1, b.row);
     let mut one = a.moved(first.row + 1);
     let mut other = b.moved(second.row + 1);
+    // Two walks side by side: where the next children stand is known only behind the subtrees of these.
     while (one.row < one_last) & (other.row < other_last) {
         (one, other) = same_component::<V>(walk, one, other, level - 1)?;
     }
