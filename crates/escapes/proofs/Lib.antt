@@ -1,5 +1,4 @@
 pub mod Alike
-pub mod Answers
 pub mod Places
 pub mod Reading
 pub mod Writing

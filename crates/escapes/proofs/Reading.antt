@@ -1,6 +1,6 @@
 -- Laws of reading text: a run without a backslash, an escape, a backslash that begins none, and what a loop through a value knows. Assumes nothing.
 use mathlib.Core.Path.{◌≡◌, refl, sym, ap, ◌∙◌}
-use mathlib.Core.Bool.{Bool, true, false, not, ◌||◌}
+use mathlib.Core.Bool.{Bool, true, false, not}
 use mathlib.Core.List.{List, [], ◌∷◌, ◌++◌}
 use Prim.Native.Nat.{ℕ, zero, suc, ◌+◌, ◌≤◌, ◌<◌, zero-le, suc-le-suc}
 use native.Mathlib.Nat.{zero-add, not-suc-le-zero, le_of_suc-le-suc, le_refl}
@@ -8,18 +8,10 @@ use native.Mathlib.Omega.{arith}
 use lib.ListN.{length, get_or, take, drop}
 use lib.Dec.{eqb}
 use Rattle.octets.specs.Choice.{pick}
-use Rattle.octets.specs.Bytes.{lf, other}
+use Rattle.octets.specs.Bytes.{other}
 use Rattle.octets.specs.Runs.{run}
-use Rattle.escapes.specs.Text.{backslash, small_n, capital_n, escapable, meant, fine, text_of}
+use Rattle.escapes.specs.Text.{backslash, escapable, meant, fine, text_of}
 use Rattle.escapes.specs.declared.Mode.{Mode}
-
--- ---- what stands behind a backslash
-
-pub meant_break : (x : ℕ) → eqb x small_n || eqb x capital_n ≡ true → lf ≡ meant x
-meant_break x e = rw e
-
-pub meant_itself : (x : ℕ) → eqb x small_n || eqb x capital_n ≡ false → x ≡ meant x
-meant_itself x e = rw e
 
 -- ---- the front of a value
 

@@ -11,24 +11,15 @@ use Rattle.std.specs.Int.{from_bool}
 use lib.ListN.{length, get_or, set, take, drop, length-append, take-append-drop}
 use lib.Seq.{drop-cons}
 use lib.Dec.{eqb, ltb}
-use borrow.Author.Tests.{le-leb, lt-leb, ltb-true, ltb-false, lt-ltb, le-ltb, eq-eqb, ne_eqb}
+use borrow.Author.Tests.{ltb-true, ltb-false, lt-ltb, le-ltb}
 use Rattle.octets.specs.Choice.{pick}
 use Rattle.octets.specs.Bytes.{lf, comma, semicolon, other}
 use Rattle.octets.specs.Runs.{run}
 use Rattle.octets.specs.Laid.{laid, laid_from}
-use Rattle.octets.specs.Answers.{longest, too_long, output, room_answer}
-use Rattle.octets.specs.declared.Output.{Output}
 use Rattle.octets.proofs.Laid.{nothing}
 use Rattle.octets.proofs.Writing.{one_laid, from_then, length_from, lent_back}
-use Rattle.escapes.specs.Text.{backslash, small_n, safe, letter, spelt, as_value}
-use Rattle.escapes.specs.Answers.{value_answer}
+use Rattle.escapes.specs.Text.{backslash, safe, letter, spelt, as_value}
 use Rattle.escapes.specs.Turns.{Written}
-
-pub letter_break : (x : ℕ) → x ≡ lf → small_n ≡ letter x
-letter_break x e = rw (eq-eqb x lf e)
-
-pub letter_other : (x : ℕ) → (x ≡ lf → ⊥) → x ≡ letter x
-letter_other x e = rw (ne_eqb x lf e)
 
 -- ---- the value of a text, byte by byte and part by part
 
@@ -201,16 +192,3 @@ module _ {old out text : List ℕ} {i at : ℕ} (f : Spelling old out text (drop
             rw (one_laid at backslash out (omega (arith, room_escape)))
             (one_laid (at + 1) (letter (get_or text i 0)) (laid_from at (backslash ∷ []) out) (rw length_from (omega (arith, room_escape)))
             ∙ from_then at (backslash ∷ []) (letter (get_or text i 0) ∷ []) out)
-
--- ---- answers
-
-module _ (text : List ℕ) (room : ℕ) {r : Output} where
-  pub text_too_long : longest < length text → r ≡ output too_long 0 0 → r ≡ value_answer text room
-  text_too_long h p = p ∙ rw (lt-leb (length text) longest h)
-
-  module _ (h : length text ≤ longest) {n : ℕ} (e : n ≡ length (as_value text)) where
-    pub value_too_long : longest < n → r ≡ output too_long 0 0 → r ≡ value_answer text room
-    value_too_long k p = p ∙ rw (le-leb (length text) longest h, lt-leb (length (as_value text)) longest (omega (arith, e)))
-
-    pub value_by_room : n ≤ longest → r ≡ room_answer n room → r ≡ value_answer text room
-    value_by_room k p = p ∙ rw (e, le-leb (length text) longest h, le-leb (length (as_value text)) longest (omega (arith, e)))

@@ -2,21 +2,21 @@
 use mathlib.Core.Path.{◌≡◌, refl, sym, ap, subst, ◌∙◌}
 use mathlib.Core.Bool.{Bool, true, false}
 use mathlib.Core.List.{List, ◌++◌}
-use Prim.Native.Nat.{ℕ, ◌+◌, ◌*◌, ◌≤◌, ◌<◌}
+use Prim.Native.Nat.{ℕ, ◌*◌, ◌≤◌}
 use native.Mathlib.Nat.{min-eq_left}
 use native.Mathlib.Omega.{arith}
 use lib.ListN.{length, take, drop, take-append-drop, length-append}
 use lib.Seq.{take-take}
 use lib.Dec.{leb, eqb}
-use borrow.Author.Tests.{le-leb, lt-leb, leb-true, eq-eqb, ne_eqb, eqb-true, eqb-false}
+use borrow.Author.Tests.{le-leb, leb-true, eq-eqb, eqb-true, eqb-false}
 use Rattle.std.specs.Prelude.{Result, Ok, Err, ⊤}
 use Rattle.octets.specs.Choice.{pick}
 use Rattle.octets.specs.Bytes.{lf, other, ascii}
 use Rattle.octets.specs.Runs.{run, only}
-use Rattle.octets.specs.Laid.{laid, counted}
-use Rattle.octets.specs.Answers.{longest, done, too_long, has_break, output, room_answer}
+use Rattle.octets.specs.Laid.{counted}
+use Rattle.octets.specs.Answers.{longest, done, too_long, output, room_answer}
 use Rattle.octets.specs.declared.Output.{Output}
-use Rattle.octets.proofs.Answers.{kept, written}
+use Rattle.octets.proofs.Answers.{kept}
 use Rattle.octets.proofs.Bools.{both}
 use Rattle.octets.proofs.Runs.{whole, whole_take, through, all_of, only_both}
 use Rattle.characters.specs.Utf8.{is_utf8}
@@ -54,30 +54,6 @@ behind_front line n h e = subst (λ (xs : List ℕ). (only (other lf) xs ≡ tru
     whole = utf8_append (take n line) (drop n line) (behind_ascii (take n line) (drop n line) f.1) ∙ rw (ascii_utf8 (take n line) f.1, common_utf8 (drop n line) e)
 
 module _ (number sound : ℕ) (line : List ℕ) where
-  -- by the bytes
-  module _ {n : ℕ} (e : n ≡ 0 + run (other lf) (drop 0 line)) where
-    pub has_break_holds : n < length line → output has_break n 0 ≡ byte_answer number sound line
-    has_break_holds k =
-        let r : n ≡ run (other lf) line = omega arith in
-        rw (lt-leb (length line) (run (other lf) line) (omega arith), r)
-
-    module _ (k : length line ≤ n) where
-      no_break : only (other lf) line ≡ true
-      no_break = le-leb (length line) (run (other lf) line) (omega arith)
-
-      pub not_taken : sound < length line → output number sound 0 ≡ byte_answer number sound line
-      not_taken h = rw (no_break, lt-leb (length line) sound h) refl
-
-      pub all_taken : length line ≤ sound → output done 0 0 ≡ byte_answer number sound line
-      all_taken h = rw (no_break, le-leb (length line) sound h) refl
-
-  -- by the length first
-  pub when_too_long : longest < length line → output too_long 0 0 ≡ line_answer number sound line
-  when_too_long h = rw (lt-leb (length line) longest h)
-
-  pub by_bytes : length line ≤ longest → byte_answer number sound line ≡ line_answer number sound line
-  by_bytes h = rw (le-leb (length line) longest h)
-
   -- nothing is wrong with a line without LF that the fold takes
   pub nothing_wrong : length line ≤ longest → only (other lf) line ≡ true → length line ≤ sound → output done 0 0 ≡ line_answer number sound line
   nothing_wrong h t takes = rw (le-leb (length line) longest h, t, le-leb (length line) sound takes)
@@ -110,12 +86,6 @@ passed_err told refusal e = go (eqb told.answer done) refl e
 -- ---- the fold
 
 module _ (checked : List ℕ → Output) (fold : List ℕ → List ℕ) (line old : List ℕ) where
-  pub refused : (refusal : Output) → Err refusal ≡ passed (checked line)
-      → (refusal ≡ fold_answer checked fold line (length old)) × (old ≡ fold_out checked fold line old)
-  refused refusal e =
-      let p = passed_err (checked line) refusal e in
-      kept (rw (← p.0, ne_eqb refusal.answer done p.1) refl) (fold line) old p.1
-
   -- the count is exact, since the line is not too long
   module _ (e : Ok tt ≡ passed (checked line)) (short : (checked line).answer ≡ done → length line ≤ longest) (small : length (fold line) ≤ 4 * length line)
       {n : ℕ} (c : n ≡ counted (length (fold line))) {told : Output} (r : told ≡ room_answer n (length old)) where
@@ -127,7 +97,3 @@ module _ (checked : List ℕ → Output) (fold : List ℕ → List ℕ) (line ol
 
     pub no_room : (told.answer ≡ done → ⊥) → (told ≡ fold_answer checked fold line (length old)) × (old ≡ fold_out checked fold line old)
     no_room h = kept folded (fold line) old h
-
-    pub laid_out : told.answer ≡ done → {new : List ℕ} → new ≡ laid (fold line) old
-        → (told ≡ fold_answer checked fold line (length old)) × (new ≡ fold_out checked fold line old)
-    laid_out h p = written folded (fold line) old h p

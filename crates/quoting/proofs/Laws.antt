@@ -1,5 +1,5 @@
 -- Laws of quoting: what stays, what is wraps, and each way out. Assumes nothing.
-use mathlib.Core.Path.{◌≡◌, refl, sym, ap, ◌∙◌}
+use mathlib.Core.Path.{◌≡◌, sym, ap, ◌∙◌}
 use mathlib.Core.Bool.{Bool, true, false}
 use mathlib.Core.List.{List, [], ◌∷◌, ◌++◌}
 use Prim.Native.Nat.{ℕ, ◌+◌, ◌≤◌, ◌<◌}
@@ -12,12 +12,8 @@ use Rattle.octets.specs.Bytes.{quote}
 use Rattle.octets.specs.Laid.{counted}
 use Rattle.octets.specs.Answers.{longest, too_long, output, room_answer}
 use Rattle.octets.specs.declared.Output.{Output}
-use Rattle.quoting.specs.Quoting.{enclosed, wraps, quoted}
+use Rattle.quoting.specs.Quoting.{wraps, quoted}
 use Rattle.quoting.specs.Answers.{quote_answer}
-
-pub empty_open : (value : List ℕ) → length value ≡ 0 → enclosed value ≡ false
-empty_open [] e = refl
-empty_open (x ∷ value) e = absurd (omega arith)
 
 pub stays : (value : List ℕ) → wraps value ≡ false → value ≡ quoted value
 stays value e = sym (ap (λ (t : Bool). pick t (quote ∷ (value ++ quote ∷ [])) value) e)
