@@ -148,6 +148,7 @@ fn write_component(walk: &Walk, level: usize, place: Place, out: &mut [u8]) -> P
     let head = write_head(walk, place, out);
     let last = walking::children_end(level, place.row + 1, head.end);
     let mut child = head.children;
+    // Each child ends where its subtree does, so the rows are not counted one by one.
     while child.row < last {
         child = write_component(walk, level - 1, child, out);
     }
@@ -164,6 +165,7 @@ fn write_trees(walk: &Walk, out: &mut [u8]) -> usize
 {
     let rows = ComponentRow::count(walk.tables.components);
     let mut place = Place::START;
+    // Each tree ends where its subtree does, so the rows are not counted one by one.
     while place.row < rows {
         place = write_component(walk, octets::DEEPEST - 1, place, out);
     }

@@ -29,14 +29,14 @@ loop-number-preserved c =
     let passing = c.loop-number.invariant in
     elim c.if-at-row.branch [
       | then-at-row w ↦ rw (w.out-is, w.printed-is)
-          (line_laid passing c.loop-number-test.true p here (sym (ap (λ (p : PropertyRow). p.owner) c.at.ensures) ∙ w.if-at-row.true) (omega arith)
+          (line_laid passing (omega arith) p here (sym (ap (λ (p : PropertyRow). p.owner) c.at.ensures) ∙ w.if-at-row.true) (omega arith)
           (from_as w.line_at.ensures.value w.write_property-printed.ensures.lays) (omega (arith, w.write_property-printed.ensures.next_value, w.line_at.ensures.next_bound)))
       | else-at-row w ↦ rw (w.out-is, w.printed-is)
-          (line_passed passing c.loop-number-test.true p here (λ o. w.if-at-row.false (ap (λ (p : PropertyRow). p.owner) c.at.ensures ∙ o)))
+          (line_passed passing (omega arith) p here (λ o. w.if-at-row.false (ap (λ (p : PropertyRow). p.owner) c.at.ensures ∙ o)))
     ]
 
 pub returns : goal.returns
 returns c =
     let b = held c.args.walk.now.tables in
     from_as (ap property_lines (sym (in_window (λ n p rest. property_of b.text (parameters_in b.parameters) n p ∷ rest) [] (properties_in b.properties) c.requires.holds)))
-    (all_laid c.loop-number.invariant c.loop-number-test.false)
+    (all_laid c.loop-number.invariant (omega arith))
