@@ -22,6 +22,8 @@ use Rattle.tables.specs.declared.ComponentRow.{ComponentRow}
 use Rattle.nesting.specs.Steps.{State, nothing, check_of, after, Run, finished, stopped, onward, read_lines, run_of, counts_of, ended_at, judged, outcome_of, refused_at}
 use Rattle.nesting.specs.declared.Entry.{Entry}
 use Rattle.nesting.specs.declared.Refusal.{Refusal}
+use Rattle.nesting.specs.declared.Counts.{Counts}
+use Rattle.nesting.specs.declared.Refused.{Refused}
 use Rattle.tables.specs.Lent.{Lent}
 use Rattle.reading.specs.Answers.{number_of, place_of, refusal}
 use Rattle.reading.specs.Lent.{room_in, read_into}
@@ -170,10 +172,12 @@ module _ (text : List ℕ) where
       b : Begun 0 no_row [] no_rows lines (length s.opens) (innermost text s.opens) (rows s)
       b = begun_from lines all_in s e
 
-      told : {y : Refusal} → Err (refused_at y (length text)) ≡ Err (refused_at x from) → Broken text (number_of y) (place_of y (length text)) → Broken text (number_of x) (place_of x from)
+      told : {y : Refusal} → ◌≡◌ {A = Result Counts Refused} (Err (refused_at y (length text))) (Err (refused_at x from))
+          → Broken text (number_of y) (place_of y (length text)) → Broken text (number_of x) (place_of x from)
       told {y} q w =
-          let same : y ≡ x = cc in
-          let there : length text ≡ from = cc in
+          let is : refused_at y (length text) ≡ refused_at x from = cc in
+          let same : y ≡ x = ap (λ (z : Refused). z.refusal) is in
+          let there : length text ≡ from = ap (λ (z : Refused). z.from) is in
           subst (λ (at : ℕ). Broken text (number_of x) (place_of x at)) there (subst (λ (z : Refusal). Broken text (number_of z) (place_of z (length text))) same w)
 
       go : (t u : Bool) → eqb (length s.opens) 0 ≡ t → eqb (length s.components) 0 ≡ u
@@ -244,9 +248,10 @@ module _ (text : List ℕ) where
       go : (r : Run) → run_of text ≡ r → Broken text (number_of x) (place_of x from)
       go (finished s) e = ended_broken s e x from (sym (outcome_is e) ∙ o)
       go (stopped y at) e =
-          let q : Err (refused_at y at) ≡ Err (refused_at x from) = sym (outcome_is e) ∙ o in
-          let same : y ≡ x = cc in
-          let there : at ≡ from = cc in
+          let q : ◌≡◌ {A = Result Counts Refused} (Err (refused_at y at)) (Err (refused_at x from)) = sym (outcome_is e) ∙ o in
+          let is : refused_at y at ≡ refused_at x from = cc in
+          let same : y ≡ x = ap (λ (z : Refused). z.refusal) is in
+          let there : at ≡ from = ap (λ (z : Refused). z.from) is in
           stopped_broken x from (rw (same, there) at e)
 
 -- a feed is readable exactly where it is within the byte limit and its unfolded text is a calendar, with the same rows

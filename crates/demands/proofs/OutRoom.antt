@@ -27,10 +27,10 @@ use Rattle.escapes.specs.Answers.{text_answer, value_answer}
 use Rattle.escapes.specs.declared.Mode.{Mode}
 use Rattle.tables.specs.TableRule.{by_table_rule}
 use Rattle.tables.specs.Lent.{Lent, broken_in}
-use Rattle.writable.specs.WritingRule.{judged_in}
+use Rattle.writable.specs.WritingRule.{number_of, judged_in}
 use Rattle.writable.specs.declared.Fault.{Fault}
 use Rattle.writable.specs.declared.Unfit.{Unfit}
-use Rattle.writing.specs.Answers.{number_of, written_in, not_written, by_writing_rule, by_length, write_answer}
+use Rattle.writing.specs.Answers.{written_in, not_written, by_writing_rule, by_length, write_answer}
 use Rattle.demands.specs.Outputs.{FitTables, RoomDecides}
 use Rattle.demands.proofs.Fronts.{untouched, same_laid}
 

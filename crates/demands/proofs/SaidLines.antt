@@ -9,7 +9,7 @@ use lib.ListN.{length, get_or, drop, length-append}
 use lib.Seq.{take-length, drop-append-add, drop-append_seam, get_or-append-add, get_or-append_seam}
 use lib.Dec.{eqb, ltb}
 use borrow.Author.Tests.{ltb-true, ltb-false, eqb-true, eqb-false, lt-ltb, le-leb, eq-eqb, ne_eqb}
-use Rattle.std.specs.Prelude.{Some, None}
+use Rattle.std.specs.Prelude.{Some as Just, None}
 use Rattle.octets.specs.Choice.{pick}
 use Rattle.octets.specs.Bytes.{colon, capital, key_byte, lowered}
 use Rattle.octets.specs.Runs.{run}
@@ -196,8 +196,8 @@ module _ (key text : List ℕ) (k : Some key_byte key) where
         is_other (key ++ (text ++ tail)) (λ z. omega (arith, k.some, size_line tail))
         (no_mark begin_word (key ++ (text ++ tail)) n.0) (no_mark end_word (key ++ (text ++ tail)) n.1)
 
-    key_run : key_of (key ++ (text ++ tail)) ≡ Some (length key)
-    key_run = taken (key ++ (text ++ tail)) free ∙ ap Some (key_size key (text ++ tail) k.every off)
+    key_run : key_of (key ++ (text ++ tail)) ≡ Just (length key)
+    key_run = taken (key ++ (text ++ tail)) free ∙ ap Just (key_size key (text ++ tail) k.every off)
 
     some_key : length key ≡ 0 → ⊥
     some_key z = omega (arith, k.some)

@@ -13,6 +13,7 @@ use Rattle.octets.specs.Views.{viewed}
 use Rattle.octets.specs.Keys.{key_of}
 use Rattle.octets.specs.declared.Output.{Output}
 use Rattle.unfolding.specs.Unfold.{unfolded}
+use Rattle.parameters.specs.declared.Param.{Param}
 use Rattle.parameters.specs.Parameter.{front_of}
 use Rattle.parameters.specs.declared.Value.{Value}
 use Rattle.parameters.specs.declared.Value.TheVariants.{Absent, Present}
