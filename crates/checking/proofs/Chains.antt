@@ -1,12 +1,12 @@
 -- The rows that a row may name as its parent, in places by their depth: the parent is in the place below the row's own, or nowhere. Assumes nothing.
-use mathlib.Core.Path.{◌≡◌, refl, sym, ap, ◌∙◌}
+use mathlib.Core.Path.{◌≡◌, refl, sym, ◌∙◌}
 use mathlib.Core.Bool.{Bool, true, false, ◌&&◌}
-use mathlib.Core.List.{List, ◌∷◌}
+use mathlib.Core.List.{List, [], ◌∷◌, ◌++◌}
 use Prim.Native.Nat.{ℕ, zero, suc, ◌+◌, ◌-◌, ◌≤◌, ◌<◌}
 use native.Mathlib.Nat.{not-suc-le-zero}
 use native.Mathlib.Omega.{arith}
-use lib.ListN.{length, get_or, set, length-set}
-use lib.Seq.{get_or-set_same, get_or-set_other}
+use lib.ListN.{length, get_or, take, length-append, get_or-append}
+use lib.Seq.{get_or-take, get_or-append_seam, length-take-le}
 use lib.Dec.{eqb, leb}
 use borrow.Author.Tests.{eqb-true, eqb-false, eq-eqb, ne_eqb, leb-true, le-leb}
 use Rattle.octets.specs.Answers.{deepest}
@@ -117,59 +117,73 @@ module _ (rows : List ℕ) (d : ℕ) (c : ComponentRow) where
       go false e zero r = let z : false ≡ true = rw (e, r.is) at t in absurd (let w : ◌≡◌ {A = ℕ} 0 1 = cc in omega arith)
       go false e (suc j) r = alike (suc j) (both (eqb c.depth (suc j + 1)) (leb c.depth deepest) (rw (e, r.is) at t)) r.within (rw e r.is)
 
--- the rows stand in an array of 64 places, and all of them below n
-pub record Standing (rows : List ℕ) (d n : ℕ) : Type 0 where
-  pub size : length rows ≡ deepest
-  pub below : (i : ℕ) → i < d → get_or rows i 0 < n
-  pub rising : Rising rows d
+-- the rows stand in a list of at most 64, and all of them below n
+pub record Standing (rows : List ℕ) (n : ℕ) : Type 0 where
+  pub few : length rows ≤ deepest
+  pub below : (i : ℕ) → i < length rows → get_or rows i 0 < n
+  pub rising : Rising rows (length rows)
 
-chain_set : (rows : List ℕ) (d i n : ℕ) → d ≤ i → chain (set rows i n) d ≡ chain rows d
-unfolding chain
-chain_set rows zero i n h = refl
-chain_set rows (suc d) i n h = rw (get_or-set_other rows i d n 0 (λ q. omega arith), chain_set rows d i n (omega arith))
+-- row n put behind the first k rows
+module _ (rows : List ℕ) (k n : ℕ) (h : k ≤ length rows) where
+  abbrev pub put : List ℕ
+  put = take k rows ++ (n ∷ [])
 
--- row n stored in place k, above the first k rows
-module _ (rows : List ℕ) (k n : ℕ) (h : k < length rows) where
-  stored : get_or (set rows k n) k 0 ≡ n
-  stored = get_or-set_same rows k n 0 h
+  size : length (take k rows) ≡ k
+  size = length-take-le k rows h
 
-  pushed : chain (set rows k n) (suc k) ≡ record { row = n; depth = suc k } ∷ chain rows k
+  pub length_put : length put ≡ k + 1
+  length_put = rw (length-append, size)
+
+  kept : (i : ℕ) → i < k → get_or put i 0 ≡ get_or rows i 0
+  kept i l = get_or-append (take k rows) (n ∷ []) 0 i (omega (arith, size)) ∙ get_or-take k rows i 0 l
+
+  stored : get_or put k 0 ≡ n
+  stored = rw size at (get_or-append_seam (take k rows) n [] 0)
+
+  chain_kept : (d : ℕ) → d ≤ k → chain put d ≡ chain rows d
   unfolding chain
-  pushed = rw (stored, chain_set rows k k n (omega arith))
+  chain_kept zero l = refl
+  chain_kept (suc d) l = rw (kept d (omega arith), chain_kept d (omega arith))
+
+  pushed : chain put (suc k) ≡ record { row = n; depth = suc k } ∷ chain rows k
+  unfolding chain
+  pushed = rw (stored, chain_kept k (omega arith))
 
   module _ (below : (i : ℕ) → i < k → get_or rows i 0 < n) where
-    below_next : (i : ℕ) → i < suc k → get_or (set rows k n) i 0 < n + 1
+    below_next : (i : ℕ) → i < suc k → get_or put i 0 < n + 1
     below_next i l = go (eqb k i) refl
       where
-        go : (t : Bool) → eqb k i ≡ t → get_or (set rows k n) i 0 < n + 1
+        go : (t : Bool) → eqb k i ≡ t → get_or put i 0 < n + 1
         go true e = rw (← eqb-true k i e, stored) (omega arith)
         go false e =
-            rw (get_or-set_other rows k i n 0 (λ q. eqb-false k i e (omega arith))) (omega (arith, below i (omega (arith, eqb-false k i e))))
+            let m : i < k = omega (arith, eqb-false k i e) in
+            rw (kept i m) (omega (arith, below i m))
 
-    rise_next : Rising rows k → (i j : ℕ) → i < j → j < suc k → get_or (set rows k n) i 0 < get_or (set rows k n) j 0
-    rise_next r i j a b = rw (get_or-set_other rows k i n 0 (λ q. omega arith)) (go (eqb k j) refl)
+    rise_next : Rising rows k → (i j : ℕ) → i < j → j < suc k → get_or put i 0 < get_or put j 0
+    rise_next r i j a b = rw (kept i (omega arith)) (go (eqb k j) refl)
       where
-        go : (t : Bool) → eqb k j ≡ t → get_or rows i 0 < get_or (set rows k n) j 0
+        go : (t : Bool) → eqb k j ≡ t → get_or rows i 0 < get_or put j 0
         go true e = let q = eqb-true k j e in rw (← q, stored) (below i (omega arith))
         go false e =
-            rw (get_or-set_other rows k j n 0 (λ q. eqb-false k j e (omega arith))) (r.rise i j a (omega (arith, eqb-false k j e)))
+            let m : j < k = omega (arith, eqb-false k j e) in
+            rw (kept j m) (r.rise i j a m)
 
-module _ (rows : List ℕ) (d n : ℕ) (c : ComponentRow) (s : Standing rows d n) (p : Placed rows d c) where
+module _ (rows : List ℕ) (n : ℕ) (c : ComponentRow) (s : Standing rows n) (p : Placed rows (length rows) c) where
   own : c.depth ≡ suc (c.depth - 1)
   own = omega (arith, p.some)
 
-  room : c.depth - 1 < length rows
-  room = omega (arith, p.some, p.few, s.size)
+  pub opens_after_holds : chain (put rows (c.depth - 1) n p.within) (length (put rows (c.depth - 1) n p.within)) ≡ opens_after n (chain rows (length rows)) c
+  opens_after_holds =
+      let l : length (put rows (c.depth - 1) n p.within) ≡ suc (c.depth - 1) = omega (arith, length_put rows (c.depth - 1) n p.within) in
+      rw l (pushed rows (c.depth - 1) n p.within ∙ rw (← own, p.is))
 
-  pub opens_after_holds : chain (set rows (c.depth - 1) n) c.depth ≡ opens_after n (chain rows d) c
-  opens_after_holds = ap (chain (set rows (c.depth - 1) n)) own ∙ (pushed rows (c.depth - 1) n room ∙ rw (← own, p.is))
-
-  pub standing : Standing (set rows (c.depth - 1) n) c.depth (n + 1)
+  pub standing : Standing (put rows (c.depth - 1) n p.within) (n + 1)
   standing =
       let below : (i : ℕ) → i < c.depth - 1 → get_or rows i 0 < n = λ i h. s.below i (omega (arith, p.within)) in
       let rising : Rising rows (c.depth - 1) = record { rise = λ i j a b. s.rising.rise i j a (omega (arith, p.within)) } in
+      let size = length_put rows (c.depth - 1) n p.within in
       record {
-        size = rw length-set s.size;
-        below = λ i h. below_next rows (c.depth - 1) n room below i (omega arith);
-        rising = record { rise = λ i j a b. rise_next rows (c.depth - 1) n room below rising i j a (omega arith) };
+        few = omega (arith, p.some, p.few, size);
+        below = λ i h. below_next rows (c.depth - 1) n p.within below i (omega (arith, size));
+        rising = record { rise = λ i j a b. rise_next rows (c.depth - 1) n p.within below rising i j a (omega (arith, size)) };
       }

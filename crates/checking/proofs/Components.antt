@@ -2,11 +2,11 @@
 -- depths. Assumes nothing.
 use mathlib.Core.Path.{◌≡◌}
 use mathlib.Core.Bool.{true, false}
-use mathlib.Core.List.{List, []}
+use mathlib.Core.List.{List, [], ◌∷◌, ◌++◌}
 use Prim.Native.Nat.{ℕ, ◌+◌, ◌-◌, ◌/◌, ◌≤◌, ◌<◌}
 use native.Mathlib.Nat.{zero-add, not-suc-le-zero}
-use lib.ListN.{length, set}
-use Rattle.octets.specs.Answers.{deepest}
+use lib.ListN.{length, take}
+use native.Mathlib.Omega.{arith}
 use Rattle.tables.specs.Rows.{component_size, component_at}
 use Rattle.tables.specs.TableRule.{component_fits, opens_after, broken_component}
 use Rattle.tables.specs.Lent.{components_in}
@@ -17,31 +17,31 @@ use Rattle.checking.proofs.Chains.{Standing, placed, opens_after_holds, standing
 use Rattle.checking.proofs.Passing.{Passed, start, fitting, breaking, end}
 
 module _ (size : ℕ) (table : List ℕ) where
-  pub record Reached (rows : List ℕ) (d row : ℕ) : Type 0 where
-    pub passed : Passed (component_fits size) opens_after component_size component_at table 0 [] row (chain rows d)
-    pub standing : Standing rows d row
+  pub record Reached (rows : List ℕ) (row : ℕ) : Type 0 where
+    pub passed : Passed (component_fits size) opens_after component_size component_at table 0 [] row (chain rows (length rows))
+    pub standing : Standing rows row
 
-  pub nothing : (rows : List ℕ) → length rows ≡ deepest → Reached rows 0 0
+  pub nothing : Reached [] 0
   unfolding chain
-  nothing rows full =
+  nothing =
       record {
         passed = start;
         standing =
-            record { size = full; below = λ i h. absurd (not-suc-le-zero h); rising = record { rise = λ i j a b. absurd (not-suc-le-zero b) } };
+            record { few = omega arith; below = λ i h. absurd (not-suc-le-zero h); rising = record { rise = λ i j a b. absurd (not-suc-le-zero b) } };
       }
 
-  module _ {rows : List ℕ} {d row : ℕ} (r : Reached rows d row) where
+  module _ {rows : List ℕ} {row : ℕ} (r : Reached rows row) where
     pub none : length table / component_size ≤ row → None ≡ broken_component size 0 [] (components_in table)
     none h = end r.passed h
 
     module _ (h : row < length table / component_size) (c : ComponentRow) (e : c ≡ component_at table row) where
-      pub breaks : component_fits size (chain rows d) c ≡ false → Some row ≡ broken_component size 0 [] (components_in table)
+      pub breaks : component_fits size (chain rows (length rows)) c ≡ false → Some row ≡ broken_component size 0 [] (components_in table)
       breaks t = rw zero-add at (breaking r.passed h e t)
 
-      pub more : component_fits size (chain rows d) c ≡ true → Reached (set rows (c.depth - 1) row) c.depth (row + 1)
+      pub more : component_fits size (chain rows (length rows)) c ≡ true → Reached (take (c.depth - 1) rows ++ (row ∷ [])) (row + 1)
       more t =
-          let p = placed rows d c size t in
+          let p = placed rows (length rows) c size t in
           record {
-            passed = rw (opens_after_holds rows d row c r.standing p) (rw zero-add at (fitting r.passed h e t));
-            standing = standing rows d row c r.standing p;
+            passed = rw (opens_after_holds rows row c r.standing p) (rw zero-add at (fitting r.passed h e t));
+            standing = standing rows row c r.standing p;
           }

@@ -8,6 +8,7 @@ ghost use Rattle.tables.specs.TableRule.{inside, parent_fits, depth_fits, compon
 ghost use Rattle.tables.specs.Lent.{lent, broken_in, components_in, properties_in, parameters_in, held};
 ghost use Rattle.checking.specs.Chains.{chain, Rising};
 
+use arrayvec::ArrayVec;
 use tables::{ComponentRow, ParameterRow, PropertyRow, Row, Tables};
 
 // Tables that meet the table rule.
@@ -24,11 +25,11 @@ fn inside(size: usize, start: u32, len: u32) -> bool
     start as usize + len as usize <= size
 }
 
-// Whether a component may stand behind the row in place `depth - 1` and its ancestors in the places below: the parent is the row one place
+// Whether a component may stand behind the last of the rows, whose ancestors are the others, outermost first: the parent is the row one place
 // below the component's own.
-fn nested(rows: &[usize; 64], depth: usize, c: ComponentRow) -> bool
-    requires { Rising rows.now depth }
-    ensures { result ≡ (parent_fits (chain rows.now depth) c && depth_fits (chain rows.now depth) c) }
+fn nested(rows: &[usize], c: ComponentRow) -> bool
+    requires { Rising rows.now (length rows.now) }
+    ensures { result ≡ (parent_fits (chain rows.now (length rows.now)) c && depth_fits (chain rows.now (length rows.now)) c) }
 {
     let own = c.depth as usize;
     if c.parent == tables::NO_PARENT {
@@ -37,7 +38,7 @@ fn nested(rows: &[usize; 64], depth: usize, c: ComponentRow) -> bool
     if own < 2 {
         return false;
     }
-    if depth < own - 1 {
+    if rows.len() < own - 1 {
         return false;
     }
     if octets::DEEPEST < own {
@@ -46,11 +47,11 @@ fn nested(rows: &[usize; 64], depth: usize, c: ComponentRow) -> bool
     rows[own - 2] == c.parent as usize
 }
 
-fn component_fits(size: usize, rows: &[usize; 64], depth: usize, c: ComponentRow) -> bool
-    requires { Rising rows.now depth }
-    ensures { result ≡ component_fits size (chain rows.now depth) c }
+fn component_fits(size: usize, rows: &[usize], c: ComponentRow) -> bool
+    requires { Rising rows.now (length rows.now) }
+    ensures { result ≡ component_fits size (chain rows.now (length rows.now)) c }
 {
-    inside(size, c.name_start, c.name_len) & nested(rows, depth, c)
+    inside(size, c.name_start, c.name_len) & nested(rows, c)
 }
 
 fn property_fits(size: usize, components: usize, p: PropertyRow) -> bool
@@ -84,15 +85,14 @@ fn parameter_fits(size: usize, properties: usize, before: u32, p: ParameterRow) 
 fn broken_component(size: usize, table: &[u32]) -> Option<usize>
     ensures { result ≡ broken_component size 0 [] (components_in table.now) }
 {
-    let mut rows = [0usize; 64];
-    let mut depth: usize = 0;
+    let mut rows: ArrayVec<usize, 64> = ArrayVec::new();
     for row in 0..ComponentRow::count(table) {
         let c = ComponentRow::at(table, row);
-        if !component_fits(size, &rows, depth, c) {
+        if !component_fits(size, rows.as_slice(), c) {
             return Some(row);
         }
-        depth = c.depth as usize;
-        rows[depth - 1] = row;
+        rows.truncate(c.depth as usize - 1);
+        rows.push(row);
     }
     None
 }
@@ -115,6 +115,7 @@ fn broken_parameter(size: usize, properties: usize, first: usize, table: &[u32])
     requires { first + length table.now / parameter_size ≤ most }
     ensures { result ≡ broken_parameter size properties first 0 (parameters_in table.now) }
 {
+    // A loop of its own, as a row here is tested with the one before it and a property row is not.
     let mut before: u32 = 0;
     for row in 0..ParameterRow::count(table) {
         let p = ParameterRow::at(table, row);

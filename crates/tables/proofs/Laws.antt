@@ -9,7 +9,7 @@ use native.Mathlib.Omega.{arith}
 use lib.ListN.{length, take, drop, drop_of_length-le, get_or, length-append}
 use lib.Seq.{take_all, sets, sets-eq, length-sets, take-append_seam, drop-append-add, drop-drop, drop-cons, get_or-append-add, get_or-append_seam}
 use lib.Dec.{ltb}
-use borrow.Author.Tests.{lt-ltb, le-ltb}
+use borrow.Author.Tests.{lt-ltb}
 use borrow.Rule.Slice.PartMut.{put_mid}
 use Rattle.octets.specs.Choice.{pick}
 use Rattle.octets.specs.Laid.{laid}
@@ -24,12 +24,9 @@ has_row size n len pos h = (le-div_iff_mul-le pos).1 (omega (arith, suc-mul n si
 pub row_fits : (size n len : ℕ) → 0 < size → n < len / size → size * n + size ≤ len
 row_fits size n len pos h = omega (arith, (le-div_iff_mul-le pos).0 h, suc-mul n size, mul_comm size n)
 
--- a row that the table has room for, and one that it has not
+-- a row that the table has room for
 pub put_inside : (size n : ℕ) (ws table : List ℕ) → n < length table / size → put_row size n ws table ≡ sets table (size * n) ws
 put_inside size n ws table h = rw (lt-ltb n (length table / size) h)
-
-pub put_outside : (size n : ℕ) (ws table : List ℕ) → length table / size ≤ n → put_row size n ws table ≡ table
-put_outside size n ws table h = rw (le-ltb n (length table / size) h)
 
 -- the words of a row laid over their place
 pub put_laid : (n k : ℕ) (ws table now : List ℕ) → 0 < length ws → n < length table / length ws → k ≡ length ws → now ≡ ws

@@ -196,23 +196,23 @@ pub fn window_of(
     let end = end_of(components, row);
     let next = Cursor {
         property: first,
-        parameter: parameter,
+        parameter,
     };
     if !ordered {
         return Window {
             first: 0,
             last: PropertyRow::count(properties),
             parameter: 0,
-            end: end,
+            end,
             cursor: next,
         };
     }
     let last = last_within(properties, first, row, end);
     Window {
-        first: first,
-        last: last,
-        parameter: parameter,
-        end: end,
+        first,
+        last,
+        parameter,
+        end,
         cursor: next,
     }
 }
@@ -238,6 +238,7 @@ pub fn same_size(components: &[u32], first: usize, second: usize) -> bool
 {
     let one = ComponentRow::at(components, first).depth;
     let other = ComponentRow::at(components, second).depth;
+    // Two numbers, as both subtrees go on in step and a chain would have to ask again which of them ended.
     let mut i = first + 1;
     let mut j = second + 1;
     while is_below(components, i, one) {

@@ -3,4 +3,4 @@ use Rattle.checking.proofs.Components.{Reached}
 use Rattle.checking.proofs.broken_component.Given as goal
 
 abbrev pub invariant-loop-row : goal.invariant-loop-row
-invariant-loop-row l = Reached l.size l.table l.rows l.depth l.row
+invariant-loop-row l = Reached l.size l.table l.rows.items l.row
