@@ -2,12 +2,10 @@
 use mathlib.Core.Path.{◌≡◌, refl, sym, ◌∙◌}
 use mathlib.Core.Bool.{true}
 use mathlib.Core.List.{List, [], ◌∷◌, ◌++◌, append_assoc, append-nil}
-use Prim.Native.Nat.{ℕ, suc, ◌+◌, ◌-◌, ◌≤◌, ◌<◌, ◌/◌, max}
-use native.Mathlib.Numerals.{add-one}
+use Prim.Native.Nat.{ℕ, ◌+◌, ◌-◌, ◌≤◌, ◌<◌, ◌/◌, max}
 use native.Mathlib.Omega.{arith}
-use lib.ListN.{length, get_or, drop, length-drop}
-use lib.Seq.{drop-cons, drop-drop, take-add}
-use borrow.Author.Tests.{eq-eqb, ne_eqb, le-leb, eqb-true}
+use lib.ListN.{length, drop, length-drop}
+use borrow.Author.Tests.{eq-eqb, ne_eqb, eqb-true}
 use Rattle.octets.specs.Laid.{most, Lays}
 use Rattle.octets.specs.Bytes.{cr, lf, quote, colon, semicolon, equals, ascii}
 use Rattle.octets.specs.Runs.{run, only}
@@ -101,22 +99,6 @@ unfolding parameters_text
 bare l none e =
     let rows = drop l.first (parameters_in l.tables.now.parameters.now) in
     e ∙ rw (run_none (belongs l.number) rows (omega arith))
-
--- two parts of a text that stand one behind the other, with a byte between them, are one part
-pub view_joins : (text : List ℕ) (start len more b : ℕ) → start + len + 1 + more ≤ length text → get_or text (start + len) 0 ≡ b
-    → viewed text start (len + 1 + more) ≡ viewed text start len ++ b ∷ viewed text (start + len + 1) more
-view_joins text start len more b h e =
-    let n : len + 1 + more ≡ len + suc more = omega arith in
-    let here : drop (start + len) text ≡ b ∷ drop (start + len + 1) text = rw (drop-cons text (start + len) 0 (omega arith), e, add-one) in
-    rw (
-      le-leb (start + (len + 1 + more)) (length text) (omega arith),
-      le-leb (start + len) (length text) (omega arith),
-      le-leb (start + len + 1 + more) (length text) h,
-      n,
-      take-add len (suc more) (drop start text),
-      drop-drop len start text,
-      here,
-    )
 
 -- ---- one parameter
 
