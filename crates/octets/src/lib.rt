@@ -1,9 +1,9 @@
 // Bytes: their classes, keys, equal parts, words in any case, views, and the numbers that every answer is made of.
 #![tactic(auto)]
 
-ghost use Rattle.std.specs.Prelude.{◌≡◌, ℕ, Bool, ◌<◌, false, ◌∷◌, [], ◌++◌, ◌+◌, ◌≤◌, min, length, get_or, take, drop, eqb, leb, ltb};
-ghost use Rattle.octets.specs.Bytes.{capital, common, key_byte, lowered, other};
-ghost use Rattle.octets.specs.Laid.{laid, counted, Lays};
+ghost use Rattle.std.specs.Prelude.{◌≡◌, ℕ, Bool, ◌<◌, false, ◌∷◌, [], ◌++◌, ◌+◌, ◌≤◌, length, get_or, take, drop, eqb, leb, ltb};
+ghost use Rattle.octets.specs.Bytes.{capital, common, key_byte, other};
+ghost use Rattle.octets.specs.Laid.{laid, Lays};
 ghost use Rattle.octets.specs.Answers.{answer_number, done, output, room_answer};
 ghost use Rattle.octets.specs.Runs.{run};
 ghost use Rattle.octets.specs.Numbers.{marks, eight};
@@ -262,12 +262,6 @@ pub fn find_near(a: &[u8], from: usize, b: u8) -> usize
     find_byte(a, i, b)
 }
 
-pub fn least(a: usize, b: usize) -> usize
-    ensures { result ≡ min a b }
-{
-    a.min(b)
-}
-
 // Lays the bytes over the front of a buffer, as far as it goes. The library copies one byte after the other, which becomes vector code.
 fn put_each(bytes: &[u8], out: &mut [u8])
     ensures { out.new ≡ laid bytes.now out.old }
@@ -314,20 +308,13 @@ pub fn put(bytes: &[u8], out: &mut [u8])
     }
 }
 
-// A count goes on, as far as 64 bits go.
-pub fn count_on(count: usize, more: usize) -> usize
-    ensures { result ≡ counted (count + more) }
-{
-    count.saturating_add(more)
-}
-
 // Lays the bytes over the buffer from `at` on, as far as it goes, and counts them in full.
 pub fn lay(bytes: &[u8], out: &mut [u8], at: usize) -> usize
     ensures { Lays at bytes.now out.old out.new result }
 {
     let from = at.min(out.len());
     put(bytes, &mut out[from..]);
-    count_on(at, bytes.len())
+    at.saturating_add(bytes.len())
 }
 
 // Lays one byte in the same way.
@@ -337,7 +324,7 @@ pub fn lay_byte(b: u8, out: &mut [u8], at: usize) -> usize
     if at < out.len() {
         out[at] = b;
     }
-    count_on(at, 1)
+    at.saturating_add(1)
 }
 
 // Whether so many bytes go into so much room: Done, or the length needed.
@@ -382,13 +369,6 @@ pub fn same_bytes(a: &[u8], b: &[u8]) -> bool
     let n = same_eights(a, b);
     // Eight that differ tell at once. What is left otherwise is less than eight.
     a.len() - n < 8 && a[n..] == b[n..]
-}
-
-// A letter in lower case, and any other byte as it is.
-pub fn lower(b: u8) -> u8
-    ensures { result ≡ lowered b }
-{
-    b.to_ascii_lowercase()
 }
 
 // Whether two words are the same, in any case of their letters. Those that are mostly have the same bytes.

@@ -33,7 +33,7 @@ fn key_order(a: &[u8], b: &[u8]) -> Ordering
 {
     for (x, y) in a.iter().zip(b) {
         if *x != *y {
-            let order = octets::lower(*x).cmp(&octets::lower(*y));
+            let order = x.to_ascii_lowercase().cmp(&y.to_ascii_lowercase());
             if order.is_ne() {
                 return order;
             }

@@ -6,6 +6,7 @@ use Rattle.std.specs.declared.cmp.Ordering.TheVariants.{Equal}
 use Rattle.std.proofs.lemmas.List.{length_push}
 use Rattle.std.proofs.lemmas.Slice.Zip.{zip_turn, zip_end}
 use Rattle.octets.specs.Bytes.{lowered}
+use Rattle.octets.proofs.Words.{small_letter}
 use Rattle.sifting.proofs.Orders.{order_told, order_past, order_ends}
 use Rattle.sifting.proofs.key_order.Goals as goal
 
@@ -20,7 +21,7 @@ returns-then-is_ne c =
     in
     let x : c.in-Some.x.now ≡ get_or a n 0 = t.2 0 in
     let y : c.in-Some.y.now ≡ get_or b n 0 = t.3 0 in
-    let e : c.cmp-order.result ≡ nat_cmp (lowered (get_or a n 0)) (lowered (get_or b n 0)) = cc in
+    let e : c.cmp-order.result ≡ nat_cmp (lowered (get_or a n 0)) (lowered (get_or b n 0)) = cc (small_letter (get_or a n 0), small_letter (get_or b n 0)) in
     order_told a b n t.0 t.1 e (sym c.is_ne.ensures ∙ c.if-is_ne.true) ∙ c.loop-x.invariant
 
 pub loop-x-preserved-else-is_ne : goal.loop-x-preserved-else-is_ne
@@ -34,7 +35,7 @@ loop-x-preserved-else-is_ne c =
     in
     let x : c.in-Some.x.now ≡ get_or a n 0 = t.2 0 in
     let y : c.in-Some.y.now ≡ get_or b n 0 = t.3 0 in
-    let e : c.cmp-order.result ≡ nat_cmp (lowered (get_or a n 0)) (lowered (get_or b n 0)) = cc in
+    let e : c.cmp-order.result ≡ nat_cmp (lowered (get_or a n 0)) (lowered (get_or b n 0)) = cc (small_letter (get_or a n 0), small_letter (get_or b n 0)) in
     rw (length_push c.loop-x.yielded (c.in-Some.x, c.in-Some.y)) (order_past a b n t.0 t.1 e (sym c.is_ne.ensures ∙ c.if-is_ne.false) ∙ c.loop-x.invariant)
 
 pub loop-x-preserved : goal.loop-x-preserved
