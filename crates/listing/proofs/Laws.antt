@@ -5,7 +5,7 @@ use Prim.Native.Nat.{ℕ, zero, suc, ◌+◌, ◌-◌, ◌/◌, ◌≤◌, ◌<�
 use native.Mathlib.Numerals.{sub-one}
 use native.Mathlib.Omega.{arith}
 use lib.ListN.{length}
-use borrow.Author.Tests.{lt-ltb, le-ltb, le-leb, lt-leb, eq-eqb, ne_eqb}
+use borrow.Author.Tests.{lt-ltb, le-ltb, lt-leb, eq-eqb, ne_eqb}
 use Rattle.octets.specs.Bytes.{space, lf, equals}
 use Rattle.octets.specs.Views.{viewed}
 use Rattle.octets.specs.Answers.{done, too_long}
@@ -13,7 +13,6 @@ use Rattle.tables.specs.Rows.{no_parent}
 use Rattle.tables.specs.declared.ParameterRow.{ParameterRow}
 use Rattle.reading.specs.Answers.{refusal}
 use Rattle.tables.specs.Lent.{Lent}
-use Rattle.reading.specs.Lent.{read_into, left}
 use Rattle.reading.specs.declared.Reading.{Reading}
 use Rattle.listing.specs.Texts.{field, digit, digits, decimal, parent_field}
 use Rattle.listing.specs.Lines.{Components, Properties, Parameters, listed_parameter, listed_rows, section_text, refused}
@@ -37,9 +36,6 @@ more_digits (suc places) n some h = rw (le-ltb n 10 h, sub-one)
 
 pub no_parent_holds : (parent : ℕ) → parent ≡ no_parent → field (45 ∷ []) space ≡ parent_field parent
 no_parent_holds parent e = rw (eq-eqb parent no_parent e)
-
-pub a_parent : (parent : ℕ) → (parent ≡ no_parent → ⊥) → field (decimal parent) space ≡ parent_field parent
-a_parent parent f = rw (ne_eqb parent no_parent f)
 
 -- ---- lines
 
@@ -67,9 +63,6 @@ module _ (line : ℕ → List ℕ) (row count : ℕ) where
 -- ---- which text stands where
 
 module _ (r : Reading) (b : Lent) where
-  pub a_refusal : (r.answer ≡ done → ⊥) → refused r ≡ listed r b
-  a_refusal f = rw (ne_eqb r.answer done f)
-
   pub sections : r.answer ≡ done
       → section_text Components b.text b.components r.components
       ++ (section_text Properties b.text b.properties r.properties ++ section_text Parameters b.text b.parameters r.parameters) ≡ listed r b
@@ -78,7 +71,3 @@ module _ (r : Reading) (b : Lent) where
 module _ (feed : List ℕ) (b : Lent) where
   pub when_too_long : longest_listed < length feed → (refused (refusal too_long 0 0) ≡ listing feed b) × (b ≡ left_listed feed b)
   when_too_long h = let e = lt-leb (length feed) longest_listed h in (rw e, rw e)
-
-  pub read : length feed ≤ longest_listed → {r : Reading} {b' : Lent} → r ≡ read_into feed b → b' ≡ left feed b
-      → (listed r b' ≡ listing feed b) × (b' ≡ left_listed feed b)
-  read h e f = let g = le-leb (length feed) longest_listed h in (rw (e, f, g), rw g f)

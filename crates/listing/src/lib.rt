@@ -64,10 +64,11 @@ fn lay_digits(places: usize, n: usize, out: &mut [u8], at: usize) -> usize
     if places == 0 {
         return at;
     }
-    if n < 10 {
-        return octets::lay(&[digit_of(n)], out, at);
-    }
-    let to = lay_digits(places - 1, n / 10, out, at);
+    let to = if n < 10 {
+        at
+    } else {
+        lay_digits(places - 1, n / 10, out, at)
+    };
     octets::lay(&[digit_of(n)], out, to)
 }
 
@@ -81,10 +82,10 @@ fn lay_number(n: usize, end: u8, out: &mut [u8], at: usize) -> usize
 fn lay_parent(parent: u32, out: &mut [u8], at: usize) -> usize
     ensures { Lays at (parent_field parent) out.old out.new result }
 {
-    if parent == tables::NO_PARENT {
-        return lay_field(b"-", b' ', out, at);
+    match parent {
+        tables::NO_PARENT => lay_field(b"-", b' ', out, at),
+        row => lay_number(row as usize, b' ', out, at),
     }
-    lay_number(parent as usize, b' ', out, at)
 }
 
 impl Listed for ComponentRow {

@@ -1,15 +1,10 @@
 -- The pass over the lines of a text: what has been read, and what is to come. Assumes nothing.
 use mathlib.Core.Path.{◌≡◌, refl, sym, ap, ◌∙◌}
 use mathlib.Core.List.{List, [], ◌∷◌, ◌++◌}
-use mathlib.Core.Bool.{Bool, true, false}
 use Prim.Native.Nat.{ℕ, ◌+◌, ◌-◌, ◌≤◌, ◌<◌}
 use native.Mathlib.Nat.{add-zero, add-sub_cancel_left}
 use native.Mathlib.Omega.{arith}
-use lib.Dec.{ltb}
-use borrow.Author.Tests.{ltb-true}
-use Rattle.octets.specs.Choice.{pick}
 use lib.ListN.{length, take, drop, length-append, length-take, length-drop, length-map}
-use Rattle.octets.specs.Answers.{deepest}
 use Rattle.octets.specs.declared.Span.{Span}
 use Rattle.parameters.specs.Parameters.{moved, params_after}
 use Rattle.parameters.proofs.Lists.{params_moved}
@@ -98,14 +93,6 @@ next_inside text at h = omega (arith, split.line_within (drop at text), length-d
 pub content_inside : (text : List ℕ) (at : ℕ) → at ≤ length text → at + length (content_at text at) ≤ length text
 content_inside text at h = omega (arith, content_length text at, next_inside text at h)
 
--- a BEGIN is fine only where not all levels are open
-opens_fewer : (opens : List Entry) → pick (ltb (length opens) deepest) fine (Err Refusal.TooDeep) ≡ fine → length opens < deepest
-opens_fewer opens f = go (ltb (length opens) deepest) refl f
-  where
-    go : (t : Bool) → ltb (length opens) deepest ≡ t → pick t fine (Err Refusal.TooDeep) ≡ fine → length opens < deepest
-    go true e f = ltb-true (length opens) deepest e
-    go false e f = let z : ◌≡◌ {A = ℕ} 0 1 = cc in absurd (omega arith)
-
 -- the parameters are as many, seen from the text as from behind the key
 rows_count : (property start : ℕ) (line : List ℕ) (p : Property) → SoundProperty line p → length (parameter_rows property start line p) ≡ p.parameters
 rows_count property start line p sound =
@@ -140,12 +127,6 @@ never_finished text r place t e f = let z : ◌≡◌ {A = ℕ} 0 1 = cc in absu
 
 module _ {text c₀ p₀ q₀ : List ℕ} {s : State} {c p q : List ℕ} {opens : List Entry} {n : Counts} {at : ℕ}
     (so : Reached text c₀ p₀ q₀ s c p q opens n at) where
-  pub same_components : length c ≡ length c₀
-  same_components = ap length so.tabled.components ∙ length_rows_put component_size component_words 0 s.components c₀
-
-  pub same_properties : length p ≡ length p₀
-  same_properties = ap length so.tabled.properties ∙ length_rows_put property_size property_words 0 s.properties p₀
-
   pub same_parameters_holds : length q ≡ length q₀
   same_parameters_holds = ap length so.tabled.parameters ∙ length_rows_put parameter_size parameter_words 0 s.parameters q₀
 
@@ -236,9 +217,6 @@ module _ {text c₀ p₀ q₀ : List ℕ} {s : State} {c p q : List ℕ} {opens 
 
       pub begin_inside : at + (name.start + name.len) ≤ length text
       begin_inside = omega (arith, begin_sound.0, begin_sound.1, content_inside text at so.inside)
-
-      pub begin_shallow : check_of text (content_at text at) line s.opens ≡ fine → length opens < deepest
-      begin_shallow f = rw so.«open» (opens_fewer s.opens (rw kind at f))
 
       pub adds_component : check_of text (content_at text at) line s.opens ≡ fine → (parent : ℕ) → parent ≡ top s.opens
           → (e : Entry) → e ≡ entry n.components at name → (c' : List ℕ) (n' : Counts)

@@ -26,10 +26,6 @@ onward run j t e = go (ltb run j) refl
     go true p = rw (lt-ltb run (j + 1) (omega (arith, ltb-true run j p))) (one t)
     go false p = or_zero_l (bool_byte t) ∙ ap bool_byte (e (ltb-false run j p))
 
-pub told : (t : Bool) → not (eqb (bool_byte t) 0) ≡ t
-told true = refl
-told false = refl
-
 -- a run that goes as far as j ends there exactly where the test t says that the byte is of another class
 pub ends : (class : ℕ → Bool) (a : List ℕ) (at j : ℕ) (t : Bool) → class (get_or a (at + j) 0) ≡ not t → at + j < length a → j ≤ run class (drop at a)
     → t ≡ ltb (run class (drop at a)) (j + 1)

@@ -15,10 +15,11 @@ loop-row-init g c =
 pub loop-row-preserved : goal.loop-row-preserved
 loop-row-preserved g c =
     let line : ℕ → List ℕ = λ (n : ℕ). g.R.Listed.line c.args.text.now (row_at g.R.Row.WORDS g.R.Row.from c.args.table.now n) in
-    let row = c.loop-row.row in
-    (omega (arith, c.lay-to.ensures.count),
+    let row = c.loop-row.row in (
+      omega (arith, c.lay-to.ensures.count),
       more c.loop-row.invariant.1 (omega arith) (line row) (listed_rows line (row + 1) (c.args.count - (row + 1))) (next_line line row c.args.count (omega arith))
-      (rw c.at.ensures at c.lay-to.ensures))
+          (rw c.at.ensures at c.lay-to.ensures),
+    )
 
 pub returns : goal.returns
 returns g c =

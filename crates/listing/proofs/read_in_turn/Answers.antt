@@ -1,6 +1,6 @@
 -- `listing::read_in_turn`: what measuring refuses, and else filling from as much of the text as it told.
 -- Assumes nothing.
-use Rattle.std.proofs.Common.{length, refl, sym, ◌∙◌, length-take, arith}
+use Rattle.std.proofs.Common.{refl, sym, ◌∙◌, length-take, arith}
 use borrow.Author.Tests.{eqb-true, eqb-false}
 use Rattle.tables.specs.Lent.{lent}
 use Rattle.reading.proofs.Unfolds.{lent_fits}
