@@ -262,50 +262,12 @@ pub fn find_near(a: &[u8], from: usize, b: u8) -> usize
     find_byte(a, i, b)
 }
 
-// Lays the bytes over the front of a buffer, as far as it goes. The library copies one byte after the other, which becomes vector code.
-fn put_each(bytes: &[u8], out: &mut [u8])
-    ensures { out.new ≡ laid bytes.now out.old }
-{
-    let n = bytes.len().min(out.len());
-    out[..n].copy_from_slice(&bytes[..n])
-}
-
-// Lays the eight bytes from `at` on at the same place. They go through a block that is no part of the buffer, so that they are moved as one number.
-fn put_eight(bytes: &[u8], out: &mut [u8], at: usize)
-    requires { (at + 8 ≤ length bytes.now) × (at + 8 ≤ length out.old) }
-    ensures { out.new ≡ take at out.old ++ (take 8 (drop at bytes.now) ++ drop (at + 8) out.old) }
-{
-    let mut block = [0u8; 8];
-    block.copy_from_slice(&bytes[at..at + 8]);
-    out[at..at + 8].copy_from_slice(&block)
-}
-
-// Lays n bytes, eight at a time; the last eight lie partly over those before, which are the same.
-fn put_eights(bytes: &[u8], out: &mut [u8], n: usize)
-    requires { (8 ≤ n) × ((n ≤ length bytes.now) × (n ≤ length out.old)) }
-    ensures { out.new ≡ take n bytes.now ++ drop n out.old }
-{
-    let last = n - 8;
-    // An index, as each step takes eight bytes.
-    let mut i: usize = 0;
-    while i < last {
-        put_eight(bytes, out, i);
-        i += 8;
-    }
-    put_eight(bytes, out, last)
-}
-
-// Lays the bytes over the front of a buffer, as far as it goes. Most that is laid is neither short nor long, and eight bytes at a
-// time lay that a tenth faster than one copy does.
+// Lays the bytes over the front of a buffer, as far as it goes.
 pub fn put(bytes: &[u8], out: &mut [u8])
     ensures { out.new ≡ laid bytes.now out.old }
 {
     let n = bytes.len().min(out.len());
-    if 8 <= n && n <= NEAR {
-        put_eights(bytes, out, n)
-    } else {
-        put_each(bytes, out)
-    }
+    out[..n].copy_from_slice(&bytes[..n])
 }
 
 // Lays the bytes over the buffer from `at` on, as far as it goes, and counts them in full.
