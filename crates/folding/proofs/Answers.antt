@@ -14,9 +14,8 @@ use Rattle.octets.specs.Choice.{pick}
 use Rattle.octets.specs.Bytes.{lf, other, ascii}
 use Rattle.octets.specs.Runs.{run, only}
 use Rattle.octets.specs.Laid.{counted}
-use Rattle.octets.specs.Answers.{longest, done, too_long, output, room_answer}
+use Rattle.octets.specs.Answers.{longest, done, too_long, output, room_answer, out_after}
 use Rattle.octets.specs.declared.Output.{Output}
-use Rattle.octets.proofs.Answers.{kept}
 use Rattle.octets.proofs.Bools.{both}
 use Rattle.octets.proofs.Runs.{whole, whole_take, through, all_of, only_both}
 use Rattle.characters.specs.Utf8.{is_utf8}
@@ -85,15 +84,13 @@ passed_err told refusal e = go (eqb told.answer done) refl e
 
 -- ---- the fold
 
-module _ (checked : List ℕ → Output) (fold : List ℕ → List ℕ) (line old : List ℕ) where
-  -- the count is exact, since the line is not too long
-  module _ (e : Ok tt ≡ passed (checked line)) (short : (checked line).answer ≡ done → length line ≤ longest) (small : length (fold line) ≤ 4 * length line)
-      {n : ℕ} (c : n ≡ counted (length (fold line))) {told : Output} (r : told ≡ room_answer n (length old)) where
-    folded : told ≡ fold_answer checked fold line (length old)
-    folded =
-        let h = passed_ok (checked line) e in
-        let exact : n ≡ length (fold line) = c ∙ min-eq_left (omega (arith, short h)) in
-        rw (eq-eqb (checked line).answer done h) (r ∙ ap (λ (k : ℕ). room_answer k (length old)) exact)
-
-    pub no_room : (told.answer ≡ done → ⊥) → (told ≡ fold_answer checked fold line (length old)) × (old ≡ fold_out checked fold line old)
-    no_room h = kept folded (fold line) old h
+-- what is laid if there is room is the fold of a line that nothing refuses: the count is exact, since the line is not too long
+pub folded : (checked : List ℕ → Output) (fold : List ℕ → List ℕ) (line old : List ℕ)
+    → Ok tt ≡ passed (checked line) → ((checked line).answer ≡ done → length line ≤ longest) → length (fold line) ≤ 4 * length line
+    → {told : Output} {new : List ℕ} → (told ≡ room_answer (counted (length (fold line))) (length old)) × (new ≡ out_after told (fold line) old)
+    → (told ≡ fold_answer checked fold line (length old)) × (new ≡ fold_out checked fold line old)
+folded checked fold line old e short small laid =
+    let h = passed_ok (checked line) e in
+    let exact : counted (length (fold line)) ≡ length (fold line) = min-eq_left (omega (arith, short h)) in
+    let told : _ ≡ fold_answer checked fold line (length old) = rw (eq-eqb (checked line).answer done h) (laid.0 ∙ ap (λ (k : ℕ). room_answer k (length old)) exact) in
+    (told, rw told at laid.1)
