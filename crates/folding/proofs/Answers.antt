@@ -14,7 +14,7 @@ use Rattle.octets.specs.Choice.{pick}
 use Rattle.octets.specs.Bytes.{lf, other, ascii}
 use Rattle.octets.specs.Runs.{run, only}
 use Rattle.octets.specs.Laid.{counted}
-use Rattle.octets.specs.Answers.{longest, done, too_long, output, room_answer}
+use Rattle.octets.specs.Answers.{longest, done, too_long, output, room_answer, out_after}
 use Rattle.octets.specs.declared.Output.{Output}
 use Rattle.octets.proofs.Answers.{kept}
 use Rattle.octets.proofs.Bools.{both}
@@ -97,3 +97,12 @@ module _ (checked : List ℕ → Output) (fold : List ℕ → List ℕ) (line ol
 
     pub no_room : (told.answer ≡ done → ⊥) → (told ≡ fold_answer checked fold line (length old)) × (old ≡ fold_out checked fold line old)
     no_room h = kept folded (fold line) old h
+
+-- what is laid if there is room is the fold of a line that nothing refuses: the count is exact, since the line is not too long
+pub folded_if_room : (checked : List ℕ → Output) (fold : List ℕ → List ℕ) (line old : List ℕ)
+    → Ok tt ≡ passed (checked line) → ((checked line).answer ≡ done → length line ≤ longest) → length (fold line) ≤ 4 * length line
+    → {told : Output} {new : List ℕ} → (told ≡ room_answer (counted (length (fold line))) (length old)) × (new ≡ out_after told (fold line) old)
+    → (told ≡ fold_answer checked fold line (length old)) × (new ≡ fold_out checked fold line old)
+folded_if_room checked fold line old e short small laid =
+    let told : _ ≡ fold_answer checked fold line (length old) = folded checked fold line old e short small refl laid.0 in
+    (told, rw told at laid.1)

@@ -195,6 +195,7 @@ pub fn fold_strict(line: &[u8], out: &mut [u8]) -> Output
     if let Err(refusal) = check_strict(line) {
         return refusal;
     }
+    // Not `lay_if_room`: counting by a loop of its own is faster than laying over no buffer.
     let first = Column::new(Column::FIRST);
     let told = octets::room_for(count_piece(first, line).length, out.len());
     if told.is_done() {
@@ -211,10 +212,5 @@ pub fn fold_line(line: &[u8], out: &mut [u8]) -> Output
     if let Err(refusal) = check_repository(line) {
         return refusal;
     }
-    let needed = fold_repository(line, &mut []);
-    let told = octets::room_for(needed, out.len());
-    if told.is_done() {
-        fold_repository(line, out);
-    }
-    told
+    octets::lay_if_room(|buffer| fold_repository(line, buffer), out)
 }

@@ -109,3 +109,7 @@ stays at old h = record {
 -- from the front on the place is the count
 pub from_front : {n : ℕ} {xs old new : List ℕ} → Lays 0 xs old new n → n ≡ counted (length xs)
 from_front {n} {xs} p = p.count ∙ ap counted (zero-add (length xs))
+
+-- and what lies over the front, with its count, is laid from there
+pub at_front : {n : ℕ} {xs old new : List ℕ} → n ≡ counted (length xs) → new ≡ laid xs old → Lays 0 xs old new n
+at_front {n} {xs} e p = record { count = e ∙ sym (ap counted (zero-add (length xs))); is = p }

@@ -1,5 +1,6 @@
 -- A list laid over the front of a buffer, as far as it goes; the rest of the buffer is as it was.
 -- Assumes nothing.
+use Rattle.std.specs.Borrow.{MutBor}
 use Rattle.std.specs.Prelude.{ℕ, ◌+◌, min, ◌≡◌, List, ◌++◌, length, take, drop}
 
 abbrev pub laid : List ℕ → List ℕ → List ℕ
@@ -21,3 +22,7 @@ counted n = min n most
 pub record Lays (at : ℕ) (bytes old new : List ℕ) (n : ℕ) : Type 0 where
   pub count : n ≡ counted (at + length bytes)
   pub is : new ≡ laid_from at bytes old
+
+-- a step that lays the same bytes over the front of whatever buffer it is lent, by what may follow a call of it
+abbrev pub LaysEach : (MutBor (List ℕ) → ℕ → MutBor (List ℕ) → Type 0) → List ℕ → Type 0
+LaysEach follows bytes = (lent back : MutBor (List ℕ)) (n : ℕ) → follows lent n back → Lays 0 bytes lent.now back.now n

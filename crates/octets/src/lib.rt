@@ -1,10 +1,10 @@
 // Bytes: their classes, keys, equal parts, words in any case, views, and the numbers that every answer is made of.
 #![tactic(auto)]
 
-ghost use Rattle.std.specs.Prelude.{◌≡◌, ℕ, Bool, ◌<◌, false, ◌∷◌, [], ◌++◌, ◌+◌, ◌≤◌, length, get_or, take, drop, eqb, leb, ltb};
+ghost use Rattle.std.specs.Prelude.{◌≡◌, ℕ, Bool, List, ◌<◌, false, ◌∷◌, [], ◌++◌, ◌+◌, ◌≤◌, length, get_or, take, drop, eqb, leb, ltb};
 ghost use Rattle.octets.specs.Bytes.{capital, common, key_byte, other};
-ghost use Rattle.octets.specs.Laid.{laid, Lays};
-ghost use Rattle.octets.specs.Answers.{answer_number, done, output, room_answer};
+ghost use Rattle.octets.specs.Laid.{laid, counted, Lays, LaysEach};
+ghost use Rattle.octets.specs.Answers.{answer_number, done, output, room_answer, out_after};
 ghost use Rattle.octets.specs.Runs.{run};
 ghost use Rattle.octets.specs.Numbers.{marks, eight};
 ghost use Rattle.octets.specs.Words.{same_bytes, same_word, starts_word};
@@ -301,6 +301,19 @@ pub fn room_for(needed: usize, room: usize) -> Output
         };
     }
     Output::done(needed)
+}
+
+// Lays what a step lays over the buffer it is lent, if there is room: it is counted first, over no buffer, and a refusal changes nothing.
+pub fn lay_if_room<F: Fn(&mut [u8]) -> usize>(lay: F, out: &mut [u8]) -> Output
+    requires { F.IsAlwaysCallable lay }
+    ensures { (bytes : List ℕ) → LaysEach (F.post lay) bytes
+        → (result ≡ room_answer (counted (length bytes)) (length out.old)) × (out.new ≡ out_after result bytes out.old) }
+{
+    let told = room_for(lay(&mut []), out.len());
+    if told.is_done() {
+        lay(out);
+    }
+    told
 }
 
 // How many bytes at the front of two texts of one length are seen to be the same, eight at a time. It stops at the first eight

@@ -56,10 +56,5 @@ pub fn quote_special_chars(value: &[u8], out: &mut [u8]) -> Output
     if value.len() > octets::LONGEST {
         return Output::refusal(Answer::TooLong, 0);
     }
-    let needed = lay_quoted(value, &mut []);
-    let told = octets::room_for(needed, out.len());
-    if told.is_done() {
-        lay_quoted(value, out);
-    }
-    told
+    octets::lay_if_room(|buffer| lay_quoted(value, buffer), out)
 }
