@@ -16,7 +16,7 @@ use tables::{ComponentRow, Row, Tables};
 use twins::Spot;
 use walking::{Cursor, Walk};
 
-// The answer, the place, and how many.
+// The answer, the place, and how many: three numbers, as callers in C have them.
 #[derive(Clone, Copy)]
 pub struct Neighbours {
     pub answer: u32,

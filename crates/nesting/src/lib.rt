@@ -331,6 +331,7 @@ fn ended(depth: usize, counts: Counts, size: usize) -> Result<Counts, Refused>
 }
 
 // Reads the lines of a text, one after another, and puts each row that its table has room for: empty tables only have the rows counted.
+// The three tables stay apart, as in the calls that lend them.
 pub fn pass(
     text: &[u8],
     components: &mut [u32],

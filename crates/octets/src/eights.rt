@@ -18,7 +18,7 @@ const PAST_Z: u64 = 0x2525_2525_2525_2525;
 // What lifts a space there.
 const FROM_SPACE: u64 = 0x6060_6060_6060_6060;
 
-// The bytes from `at` on, the first one lowest.
+// The bytes from `at` on, the first one lowest. A place in a slice, here and below, and no array of eight, which would have to be copied out first.
 fn number_at(a: &[u8], at: usize) -> u64
     requires { at + 8 ≤ length a.now }
     ensures { result ≡ number (eight a.now at) }

@@ -179,7 +179,7 @@ impl Sink for Counted {
     }
 }
 
-// Lays the line that opens or closes a component.
+// Lays the line that opens or closes a component. The mark is any text of ASCII, as the calls of this name take it.
 fn lay_mark<S: Sink>(mark: &[u8], name: &[u8], out: &mut [u8]) -> usize
     requires { only ascii mark.now ≡ true }
     ensures { Lays 0 (closed_line (mark.now ++ name.now)) (S.seen out.old) (S.seen out.new) result }

@@ -18,7 +18,7 @@ use tables::{ComponentRow, ParameterRow, PropertyRow, Row};
 
 mod zeros;
 
-// Six numbers: answer, place, length of the unfolded text, and three counts of rows.
+// Six numbers: answer, place, length of the unfolded text, and three counts of rows. The answer is a number, as theorems put answers in order.
 #[derive(Clone, Copy)]
 pub struct Reading {
     pub answer: u32,
@@ -122,7 +122,8 @@ fn place_of(r: Refusal, from: usize) -> usize
     }
 }
 
-// Whether each count has its rows.
+// Whether each count has its rows. The three tables stay apart here and below, as in the calls that lend them: a struct of three `&mut` would make each
+// clause longer, and the calls could not take it.
 fn have_room(told: Reading, components: &[u32], properties: &[u32], parameters: &[u32]) -> bool
     ensures { result ≡ fits (counts_in told) (room_for (length components.now) (length properties.now) (length parameters.now)) }
 {
@@ -179,7 +180,7 @@ fn tell_outcome(outcome: Result<Counts, Refused>, size: usize) -> Reading
     }
 }
 
-// The same of a text, whose rows are counted and not put.
+// The same of a text, whose rows are counted and not put. That a text is not too long stays a clause: three calls in a row ask it, of a plain slice.
 fn measure_text(text: &[u8]) -> Reading
     requires { length text.now ≤ longest }
     ensures { result ≡ measure_text text.now }

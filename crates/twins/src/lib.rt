@@ -18,7 +18,7 @@ use matching::{AsText, Exact, Side, Values};
 use tables::{ComponentRow, PropertyRow, Row, Tables};
 use walking::{Cursor, Walk, Window};
 
-// The answer, the place, and 1 for twins.
+// The answer, the place, and 1 for twins: three numbers, as docs/SPECIFICATION.md and callers in C have them.
 #[derive(Clone, Copy)]
 pub struct Compared {
     pub answer: u32,
@@ -99,6 +99,7 @@ impl Spot {
 }
 
 // Compares the names and the properties of two components. Where they are alike, the rows behind both subtrees follow, and where the children are looked for.
+// That a walk has arrived at a spot ties the two, so it is a clause here and below: a struct of both would copy the walk for each child.
 fn same_head<V: Values>(walk: &Walk, first: Spot, second: Spot) -> Option<(Spot, Spot)>
     requires first_arrived { Arrived (held walk.now.tables) first.row first.cursor }
     requires second_arrived { Arrived (held walk.now.tables) second.row second.cursor }
@@ -205,7 +206,7 @@ fn compare<V: Values>(tables: &Tables, first: usize, second: usize) -> Result<bo
     Ok(same_trees::<V>(&walk, Spot::start(first), Spot::start(second)))
 }
 
-// Whether two component rows are twins, or why the question cannot be asked.
+// Whether two component rows are twins, or why the question cannot be asked. It and the looser test are two calls, as callers know them by these names.
 pub fn compare_twins(
     text: &[u8],
     components: &[u32],

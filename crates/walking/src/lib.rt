@@ -123,7 +123,7 @@ fn last_within(properties: &[u32], from: usize, row: usize, end: usize) -> usize
         .count()
 }
 
-// The first parameter from `from` on that belongs to no earlier property.
+// The first parameter from `from` on that belongs to no earlier property. One chain for each kind of row: a trait for whom a row belongs to would be longer.
 pub fn first_held(parameters: &[u32], from: usize, property: usize) -> usize
     ensures { result ≡ from + front (held_before property) (drop from (parameters_in parameters.now)) }
 {
