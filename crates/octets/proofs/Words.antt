@@ -78,6 +78,9 @@ word_rest xs ys n e =
     parts : (zs : List ℕ) → map lowered (take n zs) ++ map lowered (drop n zs) ≡ map lowered zs
     parts zs = sym (map-append lowered (take n zs) (drop n zs)) ∙ ap (map lowered) (take-append-drop n zs)
 
+pub equal_words : (xs ys : List ℕ) → same_bytes xs ys ≡ true → same_word xs ys ≡ true
+equal_words xs ys e = ap (λ (zs : List ℕ). same_word zs ys) (same_eq xs ys e) ∙ same_refl (map lowered ys)
+
 pub unlike_word : (xs ys : List ℕ) → (length xs ≡ length ys → ⊥) → same_word xs ys ≡ false
 unlike_word xs ys h = unlike (map lowered xs) (map lowered ys) (λ e. h (sym (length-map xs lowered) ∙ (e ∙ length-map ys lowered)))
 

@@ -346,7 +346,7 @@ pub fn same_bytes(a: &[u8], b: &[u8]) -> bool
     a.len() - n < 8 && a[n..] == b[n..]
 }
 
-// Whether two words are the same, in any case of their letters. Those that are mostly have the same bytes.
+// Whether two words are the same, in any case of their letters.
 pub fn same_word(a: &[u8], b: &[u8]) -> bool
     ensures { result ≡ same_word a.now b.now }
 {
@@ -354,7 +354,8 @@ pub fn same_word(a: &[u8], b: &[u8]) -> bool
         return false;
     }
     let n = same_eights(a, b);
-    a[n..].eq_ignore_ascii_case(&b[n..])
+    // Words that are the same mostly have the same bytes, which is seen faster.
+    a[n..] == b[n..] || a[n..].eq_ignore_ascii_case(&b[n..])
 }
 
 // Whether the line starts with the word, in any case of its letters.
