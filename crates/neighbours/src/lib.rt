@@ -10,8 +10,8 @@ ghost use Rattle.walking.specs.Places.{Arrived};
 ghost use Rattle.twins.specs.Answers.{twin_rows};
 ghost use Rattle.neighbours.specs.Counts.{repeats, children_in, told, neighbours_answer};
 
-use octets::Answer;
 use matching::Exact;
+use octets::Answer;
 use tables::{ComponentRow, Row, Tables};
 use twins::Spot;
 use walking::{Cursor, Walk};

@@ -51,7 +51,7 @@ impl Answer {
     }
 }
 
-// What a fold, quoting or the writer answers: on NoOutRoom the length is the one needed.
+// What a fold, quoting or the writer answers: on NoOutRoom the length is the one needed. The answer is a number, as theorems put answers in order.
 #[derive(Clone, Copy)]
 pub struct Output {
     pub answer: u32,

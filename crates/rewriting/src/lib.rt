@@ -19,6 +19,7 @@ fn words_of(table: &[u32], start: usize, count: usize) -> &[u32] {
     table.get(start..start.saturating_add(count)).unwrap_or(&[])
 }
 
+// One line, here and in the programs that write: in a crate that they share it would make the lister depend on the writer.
 fn write(t: Tables, out: &mut [u8]) -> Output {
     writing::write_components(t.text, t.components, t.properties, t.parameters, out)
 }

@@ -13,8 +13,8 @@ ghost use Rattle.matching.specs.Alike.{alike, same_property_by};
 ghost use Rattle.twins.specs.Answers.{told, rows_alike_by, compared_by, twins_answer, loose_twins_answer};
 ghost use Rattle.twins.specs.Matched.{at_row, start_at, spot_in, Headed, Matched};
 
-use octets::Answer;
 use matching::{AsText, Exact, Side, Values};
+use octets::Answer;
 use tables::{ComponentRow, PropertyRow, Row, Tables};
 use walking::{Cursor, Walk, Window};
 
