@@ -217,7 +217,12 @@ fn lay_components(t: Tables, line: &mut Line) {
         let depth = row.depth as usize;
         lay_ends(depth, below, line);
         line.part(b" C =", t.text, row.name_start, row.name_len);
-        from = first_of(i, from, properties, |p| PropertyRow::at(t.properties, p).owner);
+        from = first_of(
+            i,
+            from,
+            properties,
+            |p| PropertyRow::at(t.properties, p).owner,
+        );
         lay_properties(t, i, from, line);
         below = depth + 1;
     }

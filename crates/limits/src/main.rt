@@ -3,11 +3,11 @@
 
 ghost use Rattle.std.specs.Prelude.{◌<◌};
 
-use tables::{ComponentRow, PropertyRow, Row};
 use escapes::Mode;
 use octets::Output;
 use reading::Reading;
 use std::io;
+use tables::{ComponentRow, PropertyRow, Row};
 use trial::{Numbers, OVER, read_front, read_into};
 
 // What a call answers that is lent a buffer of so many bytes.
