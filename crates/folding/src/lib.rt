@@ -82,7 +82,7 @@ pub fn fold_piece(column: Column, piece: &[u8], out: &mut [u8]) -> Folded
 // The octets between two physical lines.
 const BREAK: usize = 3;
 
-// Counts a piece as `fold_piece` lays it, by a loop of its own: laying over no buffer took a third longer, and each fold counts first.
+// Counts a piece as `fold_piece` lays it, by a loop of its own: laying over no buffer took up to a third longer, and each fold counts first.
 pub fn count_piece(column: Column, piece: &[u8]) -> Folded
     ensures { result ≡ folded_piece column.left piece.now }
 {
