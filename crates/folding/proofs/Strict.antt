@@ -4,14 +4,14 @@ use mathlib.Core.Bool.{Bool, true, false}
 use mathlib.Core.List.{List, [], ◌∷◌, ◌++◌, append_assoc, flatten}
 use Prim.Native.Nat.{ℕ, ◌+◌, ◌-◌, ◌*◌, ◌≤◌, ◌<◌, zero-le}
 use native.Mathlib.Omega.{arith}
-use lib.ListN.{length, take, drop, length-append, take-append-drop}
+use lib.ListN.{length, take, drop, length-append, length-take, take-append-drop}
 use lib.Seq.{take-append-add, drop-append-add}
 use lib.Dec.{leb}
 use borrow.Author.Tests.{le-leb, leb-true, leb-false}
 use Rattle.octets.specs.Choice.{pick}
 use Rattle.octets.specs.All.{All}
-use Rattle.octets.specs.Laid.{most, Lays}
-use Rattle.octets.proofs.Writing.{Writing, start, more, end, from_as}
+use Rattle.octets.specs.Laid.{most, counted, Lays}
+use Rattle.octets.proofs.Writing.{Writing, start, more, end, from_as, from_front, counts}
 use Rattle.characters.specs.Units.{tails, units, fitting, last_start}
 use Rattle.characters.proofs.Units.{Small, units_front, units_small, units_flatten, by_units, unit_length, unit_small, fitting_most}
 use Rattle.folding.specs.Pieces.{brk}
@@ -186,3 +186,19 @@ module _ {old out piece : List ℕ} {left₀ left : ℕ} {rest : List ℕ} {n : 
   pub finish : length rest ≤ left → {next : List ℕ} {m : ℕ} → Lays n rest out next m
       → (left - length rest ≡ left_after left₀ (units piece)) × Lays 0 (folded_units left₀ (units piece)) old next m
   finish h p = (sym (left_fits left rest h) ∙ f.column, end f.writing (from_as (sym (fold_fits left rest h)) p))
+
+-- ---- the same without a buffer, where a count goes on by as much
+
+module _ {piece : List ℕ} {left₀ left : ℕ} {rest : List ℕ} {n : ℕ} (f : Folding [] [] piece left₀ left rest n) where
+  pub count_turn : left < length rest → {m : ℕ} → m ≡ counted (counted (n + last_start left rest) + 3)
+      → Folding [] [] piece left₀ later (drop (last_start left rest) rest) m
+  count_turn h {m} p =
+      let front = take (last_start left rest) rest in
+      let l : length (front ++ brk) ≡ last_start left rest + 3 = omega (arith, length-append front brk, length-take (last_start left rest) rest, within_line left rest) in
+      turn f h zero-le (counts n (front ++ brk) (rw l (omega (arith, p))))
+
+  pub count_finish : length rest ≤ left → {m : ℕ} → m ≡ counted (n + length rest)
+      → (left - length rest ≡ left_after left₀ (units piece)) × (m ≡ counted (length (folded_units left₀ (units piece))))
+  count_finish h p =
+      let e = finish f h (counts n rest p) in
+      (e.0, from_front e.1)
