@@ -211,6 +211,7 @@ fn lay_value(text: &[u8], out: &mut [u8]) -> usize
 }
 
 // A text as a value that stands for it, counted first and then written: a refusal changes nothing.
+// Not by `octets::lay_if_room`: the value's length has a limit too, and is counted by a loop that becomes vector code.
 pub fn write_text(text: &[u8], out: &mut [u8]) -> Output
     ensures { (result ≡ value_answer text.now (length out.old)) × (out.new ≡ value_out text.now out.old) }
 {
