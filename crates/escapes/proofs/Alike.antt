@@ -68,14 +68,18 @@ stuck mode v e h = lt-leb (length v) (fine mode v) (omega arith)
 pub ends_one : (mode : Mode) (v w : List ℕ) → fine mode v ≡ 0 → eqb (length v) 0 && eqb (length w) 0 ≡ read_alike mode v w
 ends_one mode [] [] e = empty mode
 ends_one mode [] (y ∷ ys) e =
-    ne_eqb (suc (length ys)) 0 (λ h. omega arith) ∙ unlike_texts (escapes_fine mode [] && escapes_fine mode (y ∷ ys)) (text_of []) (text_of (y ∷ ys)) (λ h. omega (arith, h, some_text (y ∷ ys) (omega arith), no_text))
+    ne_eqb (suc (length ys)) 0 (λ h. omega arith)
+    ∙ unlike_texts (escapes_fine mode [] && escapes_fine mode (y ∷ ys)) (text_of []) (text_of (y ∷ ys))
+    (λ h. omega (arith, h, some_text (y ∷ ys) (omega arith), no_text))
 ends_one mode (x ∷ xs) w e =
     rw (stuck mode (x ∷ xs) e (omega arith)) (ap (λ (t : Bool). t && eqb (length w) 0) (ne_eqb (suc (length xs)) 0 (λ h. omega arith)))
 
 pub ends_other : (mode : Mode) (v w : List ℕ) → fine mode w ≡ 0 → eqb (length v) 0 && eqb (length w) 0 ≡ read_alike mode v w
 ends_other mode [] [] e = empty mode
 ends_other mode (x ∷ xs) [] e =
-    ap (λ (t : Bool). t && true) (ne_eqb (suc (length xs)) 0 (λ h. omega arith)) ∙ unlike_texts (escapes_fine mode (x ∷ xs) && escapes_fine mode []) (text_of (x ∷ xs)) (text_of []) (λ h. omega (arith, h, some_text (x ∷ xs) (omega arith), no_text))
+    ap (λ (t : Bool). t && true) (ne_eqb (suc (length xs)) 0 (λ h. omega arith))
+    ∙ unlike_texts (escapes_fine mode (x ∷ xs) && escapes_fine mode []) (text_of (x ∷ xs)) (text_of [])
+    (λ h. omega (arith, h, some_text (x ∷ xs) (omega arith), no_text))
 ends_other mode v (y ∷ ys) e =
     rw (stuck mode (y ∷ ys) e (omega arith))
     (ap (λ (t : Bool). eqb (length v) 0 && t) (ne_eqb (suc (length ys)) 0 (λ h. omega arith)) ∙ go (eqb (length v) 0) (escapes_fine mode v))

@@ -51,7 +51,8 @@ done_within feed text_room room = go (leb (length feed) longest) (leb (length (u
     size : ℕ
     size = length (unfolded feed)
 
-    go : (t u : Bool) (o : Result Counts Refused) → outcome_of (unfolded feed) ≡ o → (pick t (pick u (answered o size (by_room room)) (refusal no_text_room 0 size)) (refusal too_long 0 0)).answer ≡ done
+    go : (t u : Bool) (o : Result Counts Refused) → outcome_of (unfolded feed) ≡ o
+        → (pick t (pick u (answered o size (by_room room)) (refusal no_text_room 0 size)) (refusal too_long 0 0)).answer ≡ done
         → Within feed (pick t (pick u (answered o size (by_room room)) (refusal no_text_room 0 size)) (refusal too_long 0 0)) room
     go false u o q e = absurd (omega arith)
     go true false o q e = absurd (omega arith)

@@ -26,7 +26,8 @@ use Rattle.nesting.specs.declared.Counts.{Counts}
 use Rattle.nesting.specs.declared.Entry.{Entry}
 use Rattle.nesting.specs.declared.Refusal.{Refusal}
 use Rattle.nesting.specs.Rows.{entry, top, component_row, property_row, parameter_row, parameter_rows}
-use Rattle.nesting.specs.Steps.{fine, State, nothing, finished, stopped, refused_at, check_of, closed, after, onward, read_lines, run_of, ended_at, outcome_of, counts_of, component_counted, property_counted}
+use Rattle.nesting.specs.Steps.{fine, State, nothing, finished, stopped, refused_at, check_of, closed, after, onward, read_lines, run_of}
+use Rattle.nesting.specs.Steps.{ended_at, outcome_of, counts_of, component_counted, property_counted}
 use Rattle.nesting.specs.Held.{put_rows, Tabled}
 use Rattle.nesting.proofs.Tables.{put_one, put_more, length_rows_put}
 

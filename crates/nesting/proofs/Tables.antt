@@ -55,7 +55,8 @@ module _ {A : Type 0} (size : ℕ) (words : A → List ℕ) where
         let l : length done + 1 ≡ length (done ++ r ∷ []) = rw length-append in
         let g : (done ++ r ∷ []) ++ more ≡ done ++ r ∷ more = append_assoc done (r ∷ []) more in
         let few : length done + 1 ≤ length (done ++ r ∷ more) = rw length-append (omega arith) in
-        let h : put_row size (length done) (words r) table ≡ laid (flat words (done ++ r ∷ [])) old = append shape done r (length done) table old refl (le_trans (mul-le-mul_left size few) room) held in
+        let h : put_row size (length done) (words r) table ≡ laid (flat words (done ++ r ∷ [])) old =
+        append shape done r (length done) table old refl (le_trans (mul-le-mul_left size few) room) held in
         rw l (behind (done ++ r ∷ []) more (put_row size (length done) (words r) table) old (rw g room) h ∙ rw g)
 
     -- where there is room for all, they stand at the front, word behind word

@@ -13,4 +13,6 @@ use Rattle.folding.proofs.fold_strict.Goals as goal
 pub returns-else-is_done : goal.returns-else-is_done
 returns-else-is_done c =
     let line = c.args.line.now in
-    no_room strict_line strict line c.args.out.now c.in_default.ensures (short_enough not_utf8 (utf8_run line) line) (fold_length first line) (rw c.new-first.ensures at (ap (λ (f : Folded). f.length) c.count_piece.ensures)) c.room_for-told.ensures (eqb-false _ _ (sym c.is_done.ensures ∙ c.if-is_done.false))
+    no_room strict_line strict line c.args.out.now c.in_default.ensures (short_enough not_utf8 (utf8_run line) line) (fold_length first line)
+    (rw c.new-first.ensures at (ap (λ (f : Folded). f.length) c.count_piece.ensures)) c.room_for-told.ensures
+    (eqb-false _ _ (sym c.is_done.ensures ∙ c.if-is_done.false))

@@ -17,4 +17,7 @@ returns-in-Ok-clause-out_after c =
     let e = fits c.in-Ok.ensures c.in-Ok.checked.meets (length c.args.out.now) c.write_fitting.ensures.value in
     c.write_fitting.ensures.out_after
     ∙ ap (λ (t : Tables). out_after c.write_fitting.result (written_in (held t)) c.args.out.now) c.in-Ok.ensures.same
-    ∙ ap (λ (r : Output). out_after r (written_in (held (record { text = c.args.text; components = c.args.components; properties = c.args.properties; parameters = c.args.parameters }))) c.args.out.now) e
+    ∙ ap
+    (λ (r : Output). out_after r
+    (written_in (held (record { text = c.args.text; components = c.args.components; properties = c.args.properties; parameters = c.args.parameters }))) c.args.out.now)
+    e

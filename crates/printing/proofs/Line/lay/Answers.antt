@@ -19,5 +19,7 @@ pub returns : goal.returns
 returns g c =
     let l = c.args.self.now in
     let named = piece_as c.key.ensures c.piece-named.ensures in
-    let line = before_mark (before_mark named c.parameters-listed.ensures (omega (arith, g.met.S.Sink.no_longer c.args.out.now)) (marked (own_of l))) c.after.ensures (omega (arith, g.met.S.Sink.no_longer c.args.out.now)) (marks_front colon _ refl) in
+    let kept = g.met.S.Sink.no_longer c.args.out.now in
+    let listed = before_mark named c.parameters-listed.ensures (omega (arith, kept)) (marked (own_of l)) in
+    let line = before_mark listed c.after.ensures (omega (arith, kept)) (marks_front colon _ refl) in
     piece_as (rw c.value.ensures (parts l)) line
