@@ -242,6 +242,7 @@ fn lay_read(case: &[u8], text: &mut [u8], room: &mut Room, line: &mut Line) {
 
 // Lays the answer to a case of one of the parts here; the text and the room are lent for the work. A part that is not known is refused.
 pub fn lay_answer(part: u8, case: &[u8], text: &mut [u8], room: &mut Room, line: &mut Line) {
+    // Letters, as the frames of the comparison have them; each crate knows its own alone.
     match part {
         b'u' => lay_unfolded(case, text, line),
         b'k' => lay_key(case, line),

@@ -103,7 +103,7 @@ lead_full x xs n h e =
     (omega (arith, s.0), omega (arith, s.0))
 
 -- the bytes that the first asks for are a character just if the first unit is one
-by_lead : (x : ℕ) (xs : List ℕ) → pick (utf8_char (x ∷ take (tails x xs) xs)) (Some (suc (tails x xs))) None ≡ char_at (x ∷ xs)
+pub by_lead : (x : ℕ) (xs : List ℕ) → pick (utf8_char (x ∷ take (tails x xs) xs)) (Some (suc (tails x xs))) None ≡ char_at (x ∷ xs)
 by_lead x xs = go (utf8_char (x ∷ take (tails x xs) xs)) refl (utf8_char (char_front (x ∷ xs))) refl
   where
     go : (t : Bool) → utf8_char (x ∷ take (tails x xs) xs) ≡ t → (u : Bool) → utf8_char (char_front (x ∷ xs)) ≡ u

@@ -22,7 +22,7 @@ pub fn span(start: u32, len: u32) -> Span
     }
 }
 
-// Whether two parts of a text have the same bytes.
+// Whether two parts of a text have the same bytes. It and the next one are a call each: one function over the test would be longer than both.
 pub fn same_part(text: &[u8], a: Span, b: Span) -> bool
     ensures { result ≡ same_bytes (viewed text.now a.start a.len) (viewed text.now b.start b.len) }
 {

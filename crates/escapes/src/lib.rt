@@ -12,7 +12,8 @@ ghost use Rattle.escapes.specs.Turns.{scanned, Turns, read_alike, Written};
 
 use octets::{Answer, Output};
 
-// Which escapes are read: those of the RFC, or also the colon's, as the repository's tests have it.
+// Which escapes are read: those of the RFC, or also the colon's, as the repository's tests have it. The modes differ in one byte of one test, and come
+// from C by number, so that a type for each would say no more.
 #[derive(Clone, Copy)]
 pub enum Mode {
     Strict,
@@ -76,6 +77,7 @@ fn lay_units(mode: Mode, value: &[u8], out: &mut [u8])
     requires { (escapes_fine mode value.now ≡ true) × (length (text_of value.now) ≤ length out.old) }
     ensures { out.new ≡ laid (text_of value.now) out.old }
 {
+    // The place is counted by hand: two bytes of the value may stand for one of the text.
     let mut at = 0;
     let mut rest = value;
     while let Some((b, more)) = next_unit(mode, rest) {
@@ -169,6 +171,7 @@ fn lay_each(text: &[u8], out: &mut [u8]) -> usize
     requires { length (as_value text.now) ≤ length out.old }
     ensures { Written text.now out.old out.new result }
 {
+    // The place is counted by hand: a byte of the text may be written as two.
     let mut at = 0;
     for b in text {
         if !special(*b) {

@@ -1,4 +1,5 @@
-// The public calls for C and Rust. A slice is two words there, where it starts and how long it is; the numbers of an answer go into a lent array.
+// The public calls for C and Rust, a function for each name that callers there use. A slice is two words there, where it starts and how long it is;
+// the numbers of an answer go into a lent array.
 #![tactic(auto)]
 
 ghost use Rattle.std.specs.Prelude.{◌≡◌, ℕ, List, length};

@@ -57,7 +57,7 @@ fn digit_of(n: usize) -> u8
     b'0' + (n % 10) as u8
 }
 
-// Lays the last digits of a number, as many as there are places, without zeros in front.
+// Lays the last digits of a number, as many as there are places, without zeros in front. By hand, as a definition states the digits that lie in the buffer.
 fn lay_digits(places: usize, n: usize, out: &mut [u8], at: usize) -> usize
     ensures { Lays at (digits places n) out.old out.new result }
 {
@@ -244,7 +244,7 @@ pub fn list(
     lay_listing(r, text, components, properties, parameters, out)
 }
 
-// Lists a feed in the lister's own rooms.
+// Lists a feed in the lister's own rooms: arrays of a fixed size, as nothing here takes memory from a heap.
 pub fn list_feed(feed: &[u8], out: &mut [u8]) -> usize
     ensures { Lays 0 (listing_of feed.now) out.old out.new result }
 {

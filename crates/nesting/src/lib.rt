@@ -27,7 +27,7 @@ pub struct Entry {
     pub len: u32,
 }
 
-// The open components, the innermost last. Contracts see them as a list, the innermost first.
+// The open components, the innermost last, as an array and a depth: docs/SPECIFICATION.md fixes the form (B-96). Contracts see a list, the innermost first.
 #[derive(Drop)]
 pub struct Open {
     entries: [Entry; octets::DEEPEST],
@@ -224,7 +224,7 @@ fn put_parameters(
     }
     let mut at = from;
     let mut row = first;
-    // A look at the byte spares the call behind the last parameter.
+    // An index, as each step takes a whole parameter. A look at the byte spares the call behind the last one.
     while at < line.len()
         && line[at] == b';'
         && let Some(p) = parameters::parameter(&line[at..])
@@ -331,7 +331,7 @@ fn ended(depth: usize, counts: Counts, size: usize) -> Result<Counts, Refused>
 }
 
 // Reads the lines of a text, one after another, and puts each row that its table has room for: empty tables only have the rows counted.
-// The three tables stay apart, as in the calls that lend them.
+// The three tables stay apart: a struct of three `&mut` would make each clause longer, as `tables.old.components.now` in place of `components.old`.
 pub fn pass(
     text: &[u8],
     components: &mut [u32],

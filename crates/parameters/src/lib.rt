@@ -188,7 +188,7 @@ pub fn parameters(rest: &[u8]) -> Passed
 {
     let mut count: usize = 0;
     let mut used: usize = 0;
-    // Most lines have none: a look at the byte spares the call.
+    // An index, as each step takes a whole parameter. Most lines have none: a look at the byte spares the call.
     while byte_at(rest, used) == b';'
         && let Some(p) = parameter(&rest[used..])
     {

@@ -122,8 +122,8 @@ fn place_of(r: Refusal, from: usize) -> usize
     }
 }
 
-// Whether each count has its rows. The three tables stay apart here and below, as in the calls that lend them: a struct of three `&mut` would make each
-// clause longer, and the calls could not take it.
+// Whether each count has its rows. The three tables stay apart here and below: a struct of three `&mut` would make each clause longer, as
+// `tables.old.components.now` in place of `components.old`.
 fn have_room(told: Reading, components: &[u32], properties: &[u32], parameters: &[u32]) -> bool
     ensures { result ≡ fits (counts_in told) (room_for (length components.now) (length properties.now) (length parameters.now)) }
 {
@@ -180,7 +180,8 @@ fn tell_outcome(outcome: Result<Counts, Refused>, size: usize) -> Reading
     }
 }
 
-// The same of a text, whose rows are counted and not put. That a text is not too long stays a clause: three calls in a row ask it, of a plain slice.
+// The same of a text, whose rows are counted and not put. That a text is not too long stays a clause here and below: a type for it would be one more
+// name in each clause, and would be opened again at the first step.
 fn measure_text(text: &[u8]) -> Reading
     requires { length text.now ≤ longest }
     ensures { result ≡ measure_text text.now }

@@ -56,6 +56,7 @@ fn lay_rewritten(case: &[u8], text: &mut [u8], room: &mut Room, line: &mut Line)
 
 // Lays the answer to a case of one of the parts here or below; the text and the room are lent for the work.
 pub fn lay_answer(part: u8, case: &[u8], text: &mut [u8], room: &mut Room, line: &mut Line) {
+    // Letters, as the frames of the comparison have them; each crate knows its own alone.
     match part {
         b'w' => lay_written(case, text, room.parameters, line),
         b'W' => lay_rewritten(case, text, room, line),

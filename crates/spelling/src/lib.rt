@@ -9,6 +9,7 @@ use trial::Room;
 // Lays the line of a case of any part over the front of the buffer; the text and the room are lent for the work.
 pub fn answer(part: u8, case: &[u8], text: &mut [u8], room: &mut Room, out: &mut [u8]) -> Output {
     let mut line = Line::new(out);
+    // Letters, as the frames of the comparison have them; each crate knows its own alone.
     match part {
         b'e' => line.output(escapes::write_text(case, text), text),
         b't' => line.output(escapes::read_text(Mode::Repository, case, text), text),

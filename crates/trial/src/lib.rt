@@ -1,4 +1,5 @@
 // What the programs that run examples share: reading the input, printing what was answered, the tables, and feeds of a size.
+// Buffers are arrays of a fixed size, here and in the programs: nothing takes memory from a heap.
 #![tactic(auto)]
 
 ghost use Rattle.std.specs.Prelude.{◌+◌, ◌<◌};

@@ -99,7 +99,7 @@ impl Spot {
 }
 
 // Compares the names and the properties of two components. Where they are alike, the rows behind both subtrees follow, and where the children are looked for.
-// That a walk has arrived at a spot ties the two, so it is a clause here and below: a struct of both would copy the walk for each child.
+// That a walk has arrived at a spot ties the two, so it is a clause here and below: a struct of both would hold the walk twice for each pair of spots.
 fn same_head<V: Values>(walk: &Walk, first: Spot, second: Spot) -> Option<(Spot, Spot)>
     requires first_arrived { Arrived (held walk.now.tables) first.row first.cursor }
     requires second_arrived { Arrived (held walk.now.tables) second.row second.cursor }
