@@ -262,16 +262,12 @@ pub fn find_near(a: &[u8], from: usize, b: u8) -> usize
     find_byte(a, i, b)
 }
 
-// Lays the bytes over the front of a buffer, as far as it goes. Escaped text comes in pieces of eight bytes, which are moved as one number.
+// Lays the bytes over the front of a buffer, as far as it goes.
 pub fn put(bytes: &[u8], out: &mut [u8])
     ensures { out.new ≡ laid bytes.now out.old }
 {
     let n = bytes.len().min(out.len());
-    if n == 8 {
-        out[..8].copy_from_slice(&bytes[..8])
-    } else {
-        out[..n].copy_from_slice(&bytes[..n])
-    }
+    out[..n].copy_from_slice(&bytes[..n])
 }
 
 // Lays the bytes over the buffer from `at` on, as far as it goes, and counts them in full.

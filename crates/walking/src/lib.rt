@@ -39,7 +39,7 @@ pub struct Window {
 }
 
 // Tables that meet the table rule, as far as a walk leans on it: components nest, and parameters stand by rising property. `ordered` is said only
-// where every property stands in its owner's window.
+// where every property stands in its owner's window. It is a flag, as a walk that does not say it is as right; what it means is the last ghost field.
 #[derive(Clone, Copy)]
 pub struct Walk<'a> {
     pub tables: Tables<'a>,
@@ -177,7 +177,7 @@ pub fn in_order(components: &[u32], properties: &[u32]) -> bool
     found == PropertyRow::count(properties)
 }
 
-// The window of a component; all rows, where the tables are not in order.
+// The window of a component; all rows, where the tables are not in order. Tables and flag stand apart, as docs/CONTRACTS.md has this call.
 pub fn window_of(
     components: &[u32],
     properties: &[u32],
