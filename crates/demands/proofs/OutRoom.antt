@@ -13,7 +13,7 @@ use Rattle.std.specs.Prelude.{Option, Some, None, Result, Ok, Err}
 use Rattle.octets.specs.Choice.{pick}
 use Rattle.octets.specs.Bytes.{lf, other, ascii}
 use Rattle.octets.specs.Runs.{run, only}
-use Rattle.octets.specs.Answers.{longest, done, too_long, has_break, not_ascii, not_utf8, no_out_room, bad_table, unwritable, bad_escape, output, room_answer, out_after}
+use Rattle.octets.specs.Answers.{longest, done, too_long, has_break, not_ascii, not_utf8, no_out_room, bad_table, bad_escape, output, room_answer, out_after}
 use Rattle.octets.specs.declared.Output.{Output}
 use Rattle.octets.proofs.Laid.{whole}
 use Rattle.characters.specs.Utf8.{utf8_run}
