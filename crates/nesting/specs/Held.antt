@@ -1,8 +1,11 @@
 -- Serves inner contracts only. How the reader's state stands for what has been read.
 -- Assumes nothing.
-use Rattle.std.specs.Prelude.{ℕ, zero, suc, ◌+◌, ◌≡◌, List, [], ◌∷◌, Option, Some, None, get_or}
+use Rattle.std.specs.Prelude.{ℕ, zero, suc, ◌+◌, ◌-◌, ◌≡◌, List, [], ◌∷◌, ◌++◌, Option, Some, None, length, get_or, reverse, replicate, refl}
+use Rattle.std.proofs.Common.{ap}
+use Rattle.octets.specs.Answers.{deepest}
 use Rattle.tables.specs.Rows.{put_row, component_size, property_size, parameter_size, component_words, property_words, parameter_words}
 use Rattle.nesting.specs.declared.Entry.{Entry}
+use Rattle.nesting.specs.Rows.{no_entry}
 use Rattle.nesting.specs.Steps.{State}
 
 -- what an entry of the array reads past its end
@@ -13,6 +16,16 @@ zero_entry = record { row = 0; start = 0; len = 0 }
 unfoldable pub stack : List Entry → ℕ → List Entry
 stack entries zero = []
 stack entries (suc d) = get_or entries d zero_entry ∷ stack entries d
+
+-- a list tells its depth
+pub length_stack : (entries : List Entry) (d : ℕ) → length (stack entries d) ≡ d
+unfolding stack
+length_stack entries zero = refl
+length_stack entries (suc d) = ap suc (length_stack entries d)
+
+-- the 64 entries where these are open: the innermost last, and none behind it
+unfoldable pub array_of : List Entry → List Entry
+array_of opens = reverse opens ++ replicate (deepest - length opens) no_entry
 
 abbrev pub innermost : List Entry → Option Entry
 innermost [] = None

@@ -17,6 +17,10 @@ use Rattle.nesting.specs.declared.Entry.{Entry}
 abbrev pub entry : ℕ → ℕ → Span → Entry
 entry row start name = record { row = row; start = start + name.start; len = name.len }
 
+-- what stands in the array where nothing is open
+abbrev pub no_entry : Entry
+no_entry = record { row = no_parent; start = 0; len = 0 }
+
 -- the row of the innermost open component, or none
 abbrev pub top : List Entry → ℕ
 top [] = no_parent

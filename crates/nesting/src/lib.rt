@@ -28,10 +28,11 @@ pub struct Entry {
 }
 
 // The open components, the innermost last, as an array and a depth: docs/SPECIFICATION.md fixes the form (B-96). Contracts see a list, the innermost first.
-#[derive(Drop)]
+// The list tells the whole array, as a value that is `Copy` must: what is closed leaves no entry behind.
+#[derive(Clone, Copy)]
 pub struct Open {
-    entries: [Entry; octets::DEEPEST],
-    depth: usize,
+    pub entries: [Entry; octets::DEEPEST],
+    pub depth: usize,
 }
 
 impl Model for Open {
@@ -41,11 +42,16 @@ impl Model for Open {
     ghost Value = { List Entry };
 
     ghost use Rattle.octets.specs.Answers.{deepest};
-    ghost use Rattle.nesting.specs.Held.{stack};
+    ghost use Rattle.nesting.specs.Held.{stack, length_stack, array_of};
+    ghost use Rattle.std.proofs.Common.{sym};
 
     ghost view = { λ o. stack o.entries o.depth };
 
-    ghost invariant = { λ o. (o.depth ≤ deepest) × (length o.entries ≡ deepest) };
+    ghost invariant = { λ o. (o.depth ≤ deepest) × ((length o.entries ≡ deepest) × (o.entries ≡ array_of (stack o.entries o.depth))) };
+
+    ghost inverse = { λ opens. record { entries = array_of opens; depth = length opens } };
+
+    ghost inverse_ok = { λ o h i. record { entries = sym h.1.1 i; depth = length_stack o.entries o.depth i } };
 }
 
 #[derive(Clone, Copy)]
@@ -136,6 +142,7 @@ impl Open {
         ensures { self.new ≡ closed self.old }
     {
         self.depth = self.depth.saturating_sub(1);
+        self.entries[self.depth] = NO_ENTRY;
     }
 }
 

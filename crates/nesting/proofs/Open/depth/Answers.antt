@@ -1,7 +1,7 @@
 -- `nesting::Open::depth`: the list has as many entries.
 -- Assumes nothing.
 use Rattle.std.proofs.Common.{length, sym, ap, ◌∙◌}
-use Rattle.nesting.proofs.Stacks.{length_stack}
+use Rattle.nesting.specs.Held.{length_stack}
 use Rattle.nesting.proofs.Open.depth.Goals as goal
 
 pub returns : goal.returns
