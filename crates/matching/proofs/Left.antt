@@ -21,8 +21,9 @@ use Rattle.walking.proofs.Found.{in_window}
 use Rattle.walking.proofs.Own.{own_from, own_here, no_more, next_same, next_own, own_property_holds, behind_own}
 use Rattle.comparing.specs.Pieces.{same_parameters}
 use Rattle.matching.specs.Alike.{alike, same_property_by}
-use Rattle.matching.specs.Held.{property_in}
+use Rattle.matching.specs.Held.{property_in, row_property, Passed}
 use Rattle.matching.specs.declared.Held.{Held}
+use Rattle.matching.specs.declared.properties.Properties.{Properties}
 use Rattle.matching.proofs.Alike.{first_same, first_other, both_end, one_ends}
 
 module _ (b : Lent) (row last : ℕ) where
@@ -37,23 +38,31 @@ module _ (b : Lent) (row last : ℕ) where
         sym (next_same b.text (properties_in b.properties) (parameters_in b.parameters) row last from e)
         ∙ no_more b.text (properties_in b.properties) (parameters_in b.parameters) row last to h
 
-    -- it is in the window: the first of those that are left is there, with its parameters
-    module _ (inside : last ≤ length b.properties / property_size) (h : to < last) {p first : ℕ} (before : p ≤ front (held_before from) (parameters_in b.parameters))
-        (f : first ≡ p + front (held_before to) (drop p (parameters_in b.parameters)))
-      where
-        held_there : p ≤ front (held_before to) (parameters_in b.parameters)
-        held_there = omega (arith, before, held_rises (parameters_in b.parameters) from to (omega arith))
+    -- it is in the window: the first of those that are left is there, and no parameter before it belongs to it or to a later one
+    module _ (inside : last ≤ length b.properties / property_size) (h : to < last) where
+      pub one_left : rest from ≡ row_property b to ∷ rest (to + 1)
+      one_left =
+          let here = row_here property_size property_at b.properties to (omega arith) in
+          sym (next_same b.text (properties_in b.properties) (parameters_in b.parameters) row last from e)
+          ∙ own_here b.text (properties_in b.properties) (parameters_in b.parameters) row last to (property_at b.properties to) here h
+          (next_own b.text (properties_in b.properties) (parameters_in b.parameters) row last from e (property_at b.properties to) here h)
 
-        pub one_left : RisingParameters (parameters_in b.parameters) → rest from ≡ property_in b (record { property = to; first = first }) ∷ rest (to + 1)
-        one_left r =
-            let here = row_here property_size property_at b.properties to (omega arith) in
-            sym (next_same b.text (properties_in b.properties) (parameters_in b.parameters) row last from e)
-            ∙ own_here b.text (properties_in b.properties) (parameters_in b.parameters) row last to (property_at b.properties to) here h
-            (next_own b.text (properties_in b.properties) (parameters_in b.parameters) row last from e (property_at b.properties to) here h)
-            ∙ rw (← own_property_holds (parameters_in b.parameters) to held_there f b.text r (property_at b.properties to))
+      module _ {p : ℕ} (before : p ≤ front (held_before from) (parameters_in b.parameters)) where
+        pub none_before : p ≤ front (held_before to) (parameters_in b.parameters)
+        none_before = omega (arith, before, held_rises (parameters_in b.parameters) from to (omega arith))
 
-        pub still_before : first ≤ front (held_before (to + 1)) (parameters_in b.parameters)
-        still_before = omega (arith, behind_own (parameters_in b.parameters) to held_there f)
+        pub still_before : p ≤ front (held_before (to + 1)) (parameters_in b.parameters)
+        still_before = omega (arith, none_before, held_rises (parameters_in b.parameters) to (to + 1) (omega arith))
+
+-- the parameters of a row, looked for from `p` on
+module _ (b : Lent) (n : ℕ) {p first : ℕ} (before : p ≤ front (held_before n) (parameters_in b.parameters))
+    (f : first ≡ p + front (held_before n) (drop p (parameters_in b.parameters)))
+  where
+    pub all_held : RisingParameters (parameters_in b.parameters) → property_in b (record { property = n; first = first }) ≡ row_property b n
+    all_held r = own_property_holds (parameters_in b.parameters) n before f b.text r (property_at b.properties n)
+
+    pub found_before : {at : ℕ} → n < at → first ≤ front (held_before at) (parameters_in b.parameters)
+    found_before {at} h = omega (arith, behind_own (parameters_in b.parameters) n before f, held_rises (parameters_in b.parameters) (n + 1) at (omega arith))
 
 -- at the start all of them are left
 module _ (b : Lent) (row : ℕ) (w : Window) (o : Owns (properties_in b.properties) (parameters_in b.parameters) row w) where
@@ -65,26 +74,31 @@ module _ (b : Lent) (row : ℕ) (w : Window) (o : Owns (properties_in b.properti
 
 -- ---- the walks through two components side by side
 
+-- the first of those that are left is the row with its parameters, in tables that are the same
+pub first_held : {t t0 t1 : Tables} (n : ℕ) (h : Held) {all xs : List Property} → t0 ≡ t → t1 ≡ t0 → all ≡ row_property (held t0) n ∷ xs
+    → property_in (held t1) h ≡ row_property (held t1) n → all ≡ property_in (held t) h ∷ xs
+first_held n h e f a d = rw (← e, ← f, d, f) a
+
 module _ (values : List ℕ → List ℕ → Bool) where
   abbrev same : Property → Property → Bool
   same = same_property_by values same_parameters
 
   -- the next two are told apart or not, in tables that are the same
-  module _ {t : Tables} (t1 t2 : Tables) (e : t1 ≡ t) (f : t2 ≡ t) (p q : Held) {all xs all' ys : List Property} (n : all ≡ property_in (held t1) p ∷ xs)
-      (m : all' ≡ property_in (held t2) q ∷ ys) {told : Bool} (d : told ≡ same (property_in (held t) p) (property_in (held t) q))
+  module _ (t : Tables) (p q : Held) {all xs all' ys : List Property} (n : all ≡ property_in (held t) p ∷ xs) (m : all' ≡ property_in (held t) q ∷ ys)
+      {told : Bool} (d : told ≡ same (property_in (held t) p) (property_in (held t) q))
     where
       -- they differ
       pub differ : told ≡ false → false ≡ alike same all all'
-      differ h = first_other same all all' _ _ _ _ n m (rw (e, f) (sym d ∙ h))
+      differ h = first_other same all all' _ _ _ _ n m (sym d ∙ h)
 
       -- they agree: what is left then compares as the whole
       pub agree : told ≡ true → alike same xs ys ≡ alike same all all'
-      agree h = first_same same all all' _ _ _ _ n m (rw (e, f) (sym d ∙ h))
+      agree h = first_same same all all' _ _ _ _ n m (sym d ∙ h)
 
   -- the first walk has ended: they are alike exactly if the other ends too
-  pub ended : (n : ℕ) (b : Lent) (r : Option Held) (ended : Bool) → is_some r ≡ not ended → (all all' xs : List Property) → all ≡ []
-      → MatchOption r (all' ≡ []) (λ h. (h.property < n) × (all' ≡ property_in b h ∷ xs)) → ended ≡ alike same all all'
-  ended n b None true e all all' xs z m = both_end same all all' z m
-  ended n b None false e all all' xs z m = cc
-  ended n b (Some h) true e all all' xs z m = cc
-  ended n b (Some h) false e all all' xs z m = one_ends same all all' _ _ z m.1
+  pub ended : (walk : Properties) (b : Lent) (r : Option ℕ) (ended : Bool) → is_some r ≡ not ended → (all all' xs : List Property) → all ≡ []
+      → MatchOption r (all' ≡ []) (λ n. Passed walk n × (all' ≡ row_property b n ∷ xs)) → ended ≡ alike same all all'
+  ended walk b None true e all all' xs z m = both_end same all all' z m
+  ended walk b None false e all all' xs z m = cc
+  ended walk b (Some n) true e all all' xs z m = cc
+  ended walk b (Some n) false e all all' xs z m = one_ends same all all' _ _ z m.1

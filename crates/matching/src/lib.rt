@@ -10,7 +10,7 @@ ghost use Rattle.walking.specs.Places.{RisingParameters, Owns};
 ghost use Rattle.escapes.specs.Loose.{same_text};
 ghost use Rattle.comparing.specs.Pieces.{same_name, same_key, same_value, same_parameters};
 ghost use Rattle.matching.specs.Alike.{alike, same_property_by};
-ghost use Rattle.matching.specs.Held.{property_in, left};
+ghost use Rattle.matching.specs.Held.{property_in, row_property, Passed, left};
 
 mod properties;
 
@@ -132,22 +132,34 @@ pub fn same_property<V: Values>(tables: &Tables, a: Held, b: Held) -> bool
 }
 
 impl Properties<'_> {
-    // The next one, if one is left.
-    fn next(&mut self) -> Option<Held>
-        requires { RisingParameters (parameters_in self.old.tables.now.parameters.now) }
+    // The row of the next one, if one is left. Where its parameters stand `hold` finds: a walk that only asks whether one is left needs none.
+    fn next(&mut self) -> Option<usize>
         ensures same_tables { self.new.tables.now ≡ self.old.tables.now }
         ensures next { MatchOption result (left self.old ≡ [])
-            (λ h. (h.property < length self.old.tables.now.properties.now / property_size)
-            × (left self.old ≡ property_in (held self.old.tables.now) h ∷ left self.new)) }
+            (λ n. Passed self.new n × (left self.old ≡ row_property (held self.old.tables.now) n ∷ left self.new)) }
     {
         let property = walking::next_own(self.tables.properties, self.row, self.at, self.last);
         if self.last <= property {
             return None;
         }
-        let first = walking::first_held(self.tables.parameters, self.first, property);
         self.at = property + 1;
-        self.first = first;
-        Some(Held { property, first })
+        Some(property)
+    }
+
+    // The row that was the next one, with its parameters.
+    fn hold(&mut self, property: usize) -> Held
+        requires rising { RisingParameters (parameters_in self.old.tables.now.parameters.now) }
+        requires passed { Passed self.old property }
+        ensures same_tables { self.new.tables.now ≡ self.old.tables.now }
+        ensures same_left { left self.new ≡ left self.old }
+        ensures there { result.property < length self.old.tables.now.properties.now / property_size }
+        ensures held { property_in (held self.old.tables.now) result ≡ row_property (held self.old.tables.now) property }
+    {
+        self.first = walking::first_held(self.tables.parameters, self.first, property);
+        Held {
+            property,
+            first: self.first,
+        }
     }
 }
 
@@ -184,7 +196,7 @@ pub fn same_properties<V: Values>(tables: &Tables, a: Side, b: Side) -> bool
         let Some(q) = other.next() else {
             return false;
         };
-        if !same_property::<V>(tables, p, q) {
+        if !same_property::<V>(tables, one.hold(p), other.hold(q)) {
             return false;
         }
     }

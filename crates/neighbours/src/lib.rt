@@ -63,17 +63,6 @@ fn spot_behind(tables: &Tables, spot: Spot) -> Spot
     }
 }
 
-// Finds out the order, if it is not known.
-fn learn<'a>(walk: &Walk<'a>, with_order: Option<Walk<'a>>) -> Walk<'a>
-    requires { IfSome with_order (λ w. w.tables ≡ walk.now.tables) }
-    ensures { result.tables ≡ walk.now.tables }
-{
-    match with_order {
-        Some(ordered) => ordered,
-        None => walk.with_order(),
-    }
-}
-
 // Whether two components are twins. Most differ in their first property, and that tells without the order of rows, which is looked at where it is first needed.
 fn compare<'a>(walk: &Walk<'a>, with_order: &mut Option<Walk<'a>>, before: Spot, next: Spot) -> bool
     requires before_arrived { Arrived (held walk.now.tables) before.row before.cursor }
@@ -85,9 +74,14 @@ fn compare<'a>(walk: &Walk<'a>, with_order: &mut Option<Walk<'a>>, before: Spot,
     if !twins::same_front::<Exact>(&walk.tables, before, next) {
         return false;
     }
-    let ordered = learn(walk, *with_order);
-    *with_order = Some(ordered);
-    twins::same_trees::<Exact>(&ordered, before, next)
+    // A known order is only lent, as many pairs are compared. Two calls: a reference into the option and one that `insert` gives do not join.
+    match with_order {
+        Some(ordered) => twins::same_trees::<Exact>(ordered, before, next),
+        None => {
+            let ordered = with_order.insert(walk.with_order());
+            twins::same_trees::<Exact>(ordered, before, next)
+        }
+    }
 }
 
 // Compares each child of a component with the one before it.
