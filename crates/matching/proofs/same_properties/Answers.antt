@@ -25,7 +25,8 @@ loop-p-preserved g c =
     let other = first_held c.in-Some-next.q c.hold-in-Some.result i.1 c.in-Some-next.ensures.same_tables c.in-Some-next.ensures.next.1 c.hold-in-Some.ensures.held in (
       c.hold.ensures.same_tables ∙ (c.in-Some.ensures.same_tables ∙ i.0),
       c.hold-in-Some.ensures.same_tables ∙ (c.in-Some-next.ensures.same_tables ∙ i.1),
-      rw (c.hold.ensures.same_left, c.hold-in-Some.ensures.same_left) (agree g.V.Values.test c.args.tables.now c.hold.result c.hold-in-Some.result one other c.same_property.ensures c.if-not-same_property.false ∙ i.2),
+      rw (c.hold.ensures.same_left, c.hold-in-Some.ensures.same_left)
+          (agree g.V.Values.test c.args.tables.now c.hold.result c.hold-in-Some.result one other c.same_property.ensures c.if-not-same_property.false ∙ i.2),
     )
 
 pub returns : goal.returns
