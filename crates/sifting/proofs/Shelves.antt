@@ -1,15 +1,14 @@
 -- Laws of a shelf: the search by halving, where parameters land, and a row put on it. Assumes nothing.
 use mathlib.Core.Path.{◌≡◌, refl, sym, ap, ◌∙◌}
 use mathlib.Core.Bool.{Bool, true, false, ◌&&◌}
-use mathlib.Core.List.{List}
-use Prim.Native.Nat.{ℕ, zero, suc, ◌+◌, ◌-◌, ◌/◌, ◌≤◌, ◌<◌}
+use mathlib.Core.List.{List, [], ◌∷◌, ◌++◌}
+use Prim.Native.Nat.{ℕ, zero, suc, ◌+◌, ◌/◌, ◌≤◌, ◌<◌}
 use native.Mathlib.Omega.{arith}
-use lib.ListN.{length, get_or, set}
+use lib.ListN.{length, get_or, set, length-set, get_or-append}
 use lib.Seq.{get_or-set_same, get_or-set_other}
 use lib.Dec.{eqb, ltb}
-use Rattle.std.specs.Prelude.{◌≢◌, Option, Some, None}
-use Rattle.std.specs.List.{insert}
-use Rattle.std.proofs.lemmas.List.Edits.{length-insert, get_or-insert_at, get_or-insert_below, get_or-insert_above}
+use Rattle.std.specs.Prelude.{Option, Some, None}
+use Rattle.std.proofs.lemmas.List.{get_or_push, length_push}
 use borrow.Author.Tests.{eqb-true, eqb-false, ltb-true, ltb-false, lt-ltb, le-ltb}
 use Rattle.octets.specs.Choice.{pick}
 use Rattle.octets.proofs.Bools.{both}
@@ -141,18 +140,18 @@ stored l i a j h = go (eqb i j) refl
     go true e = rw (← eqb-true i j e) (get_or-set_same l i a 0 h)
     go false e = get_or-set_other l i j a 0 (λ f. eqb-false i j e (sym f))
 
--- a row put in a place: those from there on move up by one
-pub stand_insert : (rows : ℕ) (shelf : List ℕ) (i row : ℕ) → i ≤ length shelf → row < rows → Stand rows shelf → Stand rows (insert shelf i row)
-stand_insert rows shelf i row h l s j k = go (ltb j i) refl (eqb i j) refl
+-- a row in the place of another
+pub stand_set : (rows : ℕ) (shelf : List ℕ) (i row : ℕ) → i < length shelf → row < rows → Stand rows shelf → Stand rows (set shelf i row)
+stand_set rows shelf i row h l s j k = rw (stored shelf i row j h) (go (eqb i j))
   where
-    longer : length (insert shelf i row) ≡ length shelf + 1
-    longer = length-insert shelf i row h
+    go : (t : Bool) → pick t row (get_or shelf j 0) < rows
+    go true = l
+    go false = s j (rw length-set at k)
 
-    go : (t : Bool) → ltb j i ≡ t → (u : Bool) → eqb i j ≡ u → get_or (insert shelf i row) j 0 < rows
-    go true e u f = let b : j < i = ltb-true j i e in rw (get_or-insert_below shelf i row 0 j b h) (s j (omega (arith, b, h)))
-    go false e true f = rw (← eqb-true i j f, get_or-insert_at shelf i row 0 h) l
-    go false e false f =
-        let b : i ≤ j = ltb-false j i e in
-        let n : i ≢ j = eqb-false i j f in
-        let m : j ≡ j - 1 + 1 = omega (arith, b, n) in
-        rw (m, get_or-insert_above shelf i row 0 (j - 1) (omega (arith, b, n)) h) (s (j - 1) (omega (arith, b, n, k, longer)))
+-- a row behind the others
+pub stand_push : (rows : ℕ) (shelf : List ℕ) (row : ℕ) → row < rows → Stand rows shelf → Stand rows (shelf ++ row ∷ [])
+stand_push rows shelf row l s j k = go (ltb j (length shelf)) refl
+  where
+    go : (t : Bool) → ltb j (length shelf) ≡ t → get_or (shelf ++ row ∷ []) j 0 < rows
+    go true e = let b : j < length shelf = ltb-true j (length shelf) e in rw (get_or-append shelf (row ∷ []) 0 j b) (s j b)
+    go false e = rw (get_or_push shelf row 0 j (omega (arith, ltb-false j (length shelf) e, k, length_push shelf row))) l

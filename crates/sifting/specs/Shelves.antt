@@ -15,6 +15,10 @@ shelf_size = 768
 abbrev pub Stand : ℕ → List ℕ → Type 0
 Stand rows shelf = (j : ℕ) → j < length shelf → get_or shelf j 0 < rows
 
+-- after rows on it were moved: whatever rows there are, it holds only such
+abbrev pub Moved : List ℕ → List ℕ → Type 0
+Moved old new = (rows : ℕ) → Stand rows old → Stand rows new
+
 -- the place between lo and hi that halving leads to: behind the middle where that is below what is looked for, and otherwise before it
 unfoldable pub halve : (ℕ → Bool) → ℕ → ℕ → ℕ → ℕ
 halve below zero lo hi = lo

@@ -1,13 +1,13 @@
 // Whether two runs of parameter rows hold the same ones, in any order: in rounds over a shelf of rows in order, so that a feed of many rows takes no minutes.
 #![tactic(auto)]
 
-ghost use Rattle.std.specs.Prelude.{◌≡◌, true, false, ◌/◌, ◌≤◌, ◌<◌, length, IfSome};
+ghost use Rattle.std.specs.Prelude.{◌≡◌, true, false, ◌+◌, ◌/◌, ◌≤◌, ◌<◌, length, IfSome};
 ghost use Rattle.octets.specs.Views.{viewed};
 ghost use Rattle.tables.specs.Rows.{parameter_size};
 ghost use Rattle.tables.specs.Trees.{parameter_of, value_of};
 ghost use Rattle.comparing.specs.Runs.{parameter_in, same_runs};
 ghost use Rattle.sifting.specs.Orders.{key_order, value_order, parameter_order, precedes};
-ghost use Rattle.sifting.specs.Shelves.{shelf_size, Stand};
+ghost use Rattle.sifting.specs.Shelves.{shelf_size, Stand, Moved};
 ghost use Rattle.sifting.specs.Tallies.{Empty, Left};
 
 use arrayvec::ArrayVec;
@@ -76,6 +76,19 @@ fn row_before(text: &[u8], parameters: &[u32], p: usize, q: usize) -> bool
     .is_lt()
 }
 
+// Takes the last row down to a place; those from there on move up by one. By hand, as the library's `insert` asks for `memmove` from outside.
+fn last_to(rows: &mut [usize], place: usize)
+    requires { place < length rows.old }
+    ensures { Moved rows.old rows.new }
+{
+    let last = rows.len() - 1;
+    let row = rows[last];
+    for k in (place..last).rev() {
+        rows[k + 1] = rows[k];
+    }
+    rows[place] = row;
+}
+
 // Rows of the first of two runs, each of another parameter, in their order.
 #[derive(Drop)]
 struct Shelf<'a> {
@@ -86,15 +99,6 @@ struct Shelf<'a> {
 
 impl<'a> Shelf<'a> {
     ghost use Rattle.sifting.specs.Rounds.{row_of, place, lands, alike, Settled, Counted, Reduced, Level};
-
-    fn new(runs: &Runs<'a>) -> Self
-        ensures { result.runs ≡ runs.now }
-    {
-        Shelf {
-            runs: *runs,
-            rows: ArrayVec::new(),
-        }
-    }
 
     // Where a row is looked for: behind those that stand before it.
     fn place_of(&self, row: usize) -> usize
@@ -138,13 +142,15 @@ impl<'a> Shelf<'a> {
     fn shelve(&mut self, k: usize)
         requires in_run { k < self.old.runs.count }
         requires room { length self.old.rows.items < shelf_size }
-        ensures { self.new.runs ≡ self.old.runs }
+        ensures runs { self.new.runs ≡ self.old.runs }
+        ensures one_more { length self.new.rows.items ≤ length self.old.rows.items + 1 }
     {
         let runs = &self.runs;
         let row = runs.a + k;
         if self.landing_of(row).is_none() {
             let place = self.place_of(row);
-            self.rows.insert(place, row);
+            self.rows.push(row);
+            last_to(self.rows.as_mut_slice(), place);
         }
     }
 
@@ -236,7 +242,11 @@ fn is_empty(tally: &[usize; SHELF]) -> bool
 fn in_rounds(runs: &Runs) -> bool
     ensures { result ≡ same_runs runs.now.text.now runs.now.parameters.now runs.now.a runs.now.b runs.now.count }
 {
-    let mut shelf = Shelf::new(runs);
+    // As a literal: a function that returns it would cost the stack a second one.
+    let mut shelf = Shelf {
+        runs: *runs,
+        rows: ArrayVec::new(),
+    };
     let mut from: usize = 0;
     // Not a range, as each round says where the next begins.
     while from < runs.count {
