@@ -267,7 +267,9 @@ pub fn put(bytes: &[u8], out: &mut [u8])
     ensures { out.new ≡ laid bytes.now out.old }
 {
     let n = bytes.len().min(out.len());
-    out[..n].copy_from_slice(&bytes[..n])
+    for (i, b) in bytes[..n].iter().enumerate() {
+        out[i] = *b;
+    }
 }
 
 // Lays the bytes over the buffer from `at` on, as far as it goes, and counts them in full.
