@@ -6,6 +6,7 @@ use mathlib.Core.List.{List, [], ◌∷◌, ◌++◌}
 use Prim.Native.Nat.{ℕ, ◌+◌, ◌-◌, ◌/◌, ◌≤◌, ◌<◌}
 use native.Mathlib.Nat.{zero-add, not-suc-le-zero}
 use lib.ListN.{length, take}
+use lib.Seq.{take-take, length-take-le}
 use native.Mathlib.Omega.{arith}
 use Rattle.tables.specs.Rows.{component_size, component_at}
 use Rattle.tables.specs.TableRule.{component_fits, opens_after, broken_component}
@@ -45,3 +46,16 @@ module _ (size : ℕ) (table : List ℕ) where
             passed = rw (opens_after_holds rows row c r.standing p) (rw zero-add at (fitting r.passed h e t));
             standing = standing rows row c r.standing p;
           }
+
+  -- a row that fits behind the first `depth` rows
+  module _ (rows : List ℕ) (depth : ℕ) (l : depth ≤ length rows) (c : ComponentRow)
+      (t : component_fits size (chain (take depth rows) (length (take depth rows))) c ≡ true) where
+    near : c.depth - 1 ≤ depth
+    near = let p = placed (take depth rows) (length (take depth rows)) c size t in omega (arith, p.within, length-take-le depth rows l)
+
+    pub behind : c.depth - 1 ≤ length rows
+    behind = omega (arith, near, l)
+
+    pub onward : {row : ℕ} → Reached (take depth rows) row → row < length table / component_size → c ≡ component_at table row
+        → Reached (take (c.depth - 1) rows ++ (row ∷ [])) (row + 1)
+    onward r h e = rw (← take-take (c.depth - 1) depth rows near) (more r h c e t)

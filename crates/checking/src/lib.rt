@@ -1,8 +1,10 @@
 // The table rule as a test: which row of three tables is the first to break it.
 #![tactic(auto)]
 
-ghost use Rattle.std.specs.Prelude.{◌≡◌, ◌&&◌, [], ◌+◌, ◌/◌, ◌≤◌, length, Some, None, MatchResult};
+ghost use Rattle.std.specs.Prelude.{◌≡◌, ◌&&◌, [], ◌∷◌, ◌++◌, ◌+◌, ◌-◌, ◌/◌, ◌≤◌, ◌<◌, length, take, Some, None, MatchResult};
+ghost use Rattle.arrayvec.specs.ArrayVec.{array_vec_len};
 ghost use Rattle.octets.specs.Laid.{most};
+ghost use Rattle.octets.specs.Answers.{deepest};
 ghost use Rattle.tables.specs.Rows.{property_size, parameter_size};
 ghost use Rattle.tables.specs.TableRule.{inside, parent_fits, depth_fits, component_fits, property_fits, rising_in, presence_fits, parameter_fits, broken_component, broken_property, broken_parameter};
 ghost use Rattle.tables.specs.Lent.{lent, broken_in, components_in, properties_in, parameters_in, held};
@@ -81,18 +83,35 @@ fn parameter_fits(size: usize, properties: usize, before: u32, p: ParameterRow) 
             & (rising(properties, before, p) & presence_fits(p)))
 }
 
-// The first component row that does not fit. The row before the one at hand and its ancestors stand in the places of their depths.
+// Puts a row into the place of its depth, which holds a row already or is the first free one. What stands in deeper places stays.
+fn put(rows: &mut ArrayVec<usize, 64>, depth: usize, row: usize)
+    requires some { 0 < depth }
+    requires few { depth ≤ deepest }
+    requires behind { depth - 1 ≤ array_vec_len rows.old }
+    ensures items { take depth rows.new.items ≡ take (depth - 1) rows.old.items ++ row ∷ [] }
+    ensures len { depth ≤ array_vec_len rows.new }
+{
+    if rows.len() < depth {
+        rows.push(row);
+        return;
+    }
+    rows.as_mut_slice()[depth - 1] = row;
+}
+
+// The first component row that does not fit. The row before the one at hand and its ancestors stand in the places of their depths; what is
+// left of deeper rows behind them is not looked at.
 fn broken_component(size: usize, table: &[u32]) -> Option<usize>
     ensures { result ≡ broken_component size 0 [] (components_in table.now) }
 {
     let mut rows: ArrayVec<usize, 64> = ArrayVec::new();
+    let mut depth: usize = 0;
     for row in 0..ComponentRow::count(table) {
         let c = ComponentRow::at(table, row);
-        if !component_fits(size, rows.as_slice(), c) {
+        if !component_fits(size, &rows.as_slice()[..depth], c) {
             return Some(row);
         }
-        rows.truncate(c.depth as usize - 1);
-        rows.push(row);
+        depth = c.depth as usize;
+        put(&mut rows, depth, row);
     }
     None
 }
