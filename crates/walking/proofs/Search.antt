@@ -1,11 +1,12 @@
 -- The rows of a class, told by their numbers: the front of a table from a row on, and how many there are of them. Assumes nothing.
 use mathlib.Core.Path.{◌≡◌, refl, sym, ap, ◌∙◌}
 use mathlib.Core.Bool.{Bool, true, false, cond}
-use mathlib.Core.List.{List, [], ◌∷◌}
+use mathlib.Core.List.{List, []}
 use Prim.Native.Nat.{ℕ, zero, suc, ◌+◌, ◌-◌, ◌/◌, ◌≤◌, ◌<◌}
 use native.Mathlib.Omega.{arith}
 use lib.ListN.{length, take, drop, length-drop}
 use lib.Seq.{take_all}
+use mir.Val.{bool_byte}
 use denote.Param.Members.{Mut}
 use denote.Ref.{Bor}
 use Rattle.std.specs.declared.iter.TakeWhile.{TakeWhile}
@@ -13,7 +14,7 @@ use Rattle.std.specs.declared.ops.Range.{Range}
 use Rattle.std.specs.Fn.{CalledAt}
 use Rattle.std.specs.Iterator.{Drains}
 use Rattle.std.specs.Iterator.Adapters.{take_while_source, take_while_done, take_while_callee, take_while_steps}
-use Rattle.std.specs.List.{filter, prefix_len, range_with_len}
+use Rattle.std.specs.List.{prefix_len, range_with_len}
 use Rattle.std.proofs.iter.Yields.{nat_range_steps}
 use Rattle.std.proofs.lemmas.Iterator.{YieldsList-from_range}
 use Rattle.std.proofs.lemmas.Iterator.Consumers.{count_from_yields_List}
@@ -35,9 +36,13 @@ one_more : (t : Bool) {m n : ℕ} → m ≡ n → cond t (1 + m) 0 ≡ pick t (s
 one_more true e = omega arith
 one_more false e = refl
 
-one_found : (t : Bool) (i : ℕ) (found : List ℕ) {n : ℕ} → length found ≡ n → length (cond t (i ∷ found) found) ≡ pick t (suc n) n
-one_found true i found e = ap suc e
-one_found false i found e = e
+pub one_at_most : (t : Bool) → bool_byte t ≤ 1
+one_at_most true = omega arith
+one_at_most false = omega arith
+
+one_counted : (t : Bool) (n : ℕ) → pick t (suc n) n ≡ bool_byte t + n
+one_counted true n = omega arith
+one_counted false n = omega arith
 
 module _ {A : Type 0} (size : ℕ) (at : List ℕ → ℕ → A) (class : A → Bool) (table : List ℕ) where
   -- whether the row with a number is of the class
@@ -45,7 +50,7 @@ module _ {A : Type 0} (size : ℕ) (at : List ℕ → ℕ → A) (class : A → 
   is_of i = class (at table i)
 
   -- the rows from `from` up to `last`
-  abbrev between : ℕ → ℕ → List A
+  abbrev pub between : ℕ → ℕ → List A
   between from last = take (last - from) (drop from (rows_of size at table))
 
   front_by_number : (last n from : ℕ) → last ≤ length table / size → n ≡ last - from
@@ -57,14 +62,18 @@ module _ {A : Type 0} (size : ℕ) (at : List ℕ → ℕ → A) (class : A → 
       let m : n ≡ last - (from + 1) = omega arith in
       rw (← e, row_here size at table from l) (one_more (is_of from) (rw (← m) at (front_by_number last n (from + 1) h m)))
 
-  pub tally_by_number : (last n from : ℕ) → last ≤ length table / size → n ≡ last - from
-      → length (filter is_of (range_with_len from n)) ≡ tally class (between from last)
+  -- how many there are of them, one row at a time
+  pub tally_here : (last from : ℕ) → from < last → last ≤ length table / size
+      → tally class (between from last) ≡ bool_byte (is_of from) + tally class (between (from + 1) last)
   unfolding tally
-  tally_by_number last zero from h e = rw (← e)
-  tally_by_number last (suc n) from h e =
-      let l : from < length table / size = omega arith in
-      let m : n ≡ last - (from + 1) = omega arith in
-      rw (← e, row_here size at table from l) (one_found (is_of from) from _ (rw (← m) at (tally_by_number last n (from + 1) h m)))
+  tally_here last from l h =
+      let here : from < length table / size = omega arith in
+      let e : last - from ≡ suc (last - (from + 1)) = omega arith in
+      rw (row_here size at table from here, e) (one_counted (is_of from) _)
+
+  pub tally_over : (last from : ℕ) → last ≤ from → tally class (between from last) ≡ 0
+  unfolding tally
+  tally_over last from h = let e : last - from ≡ 0 = omega arith in rw e
 
   -- numbers taken while their rows are of the class, and counted
   module _ {F : Type 0} {g : Mut F (Bor ℕ × Unit {0}) Bool} {f : F} (s : TakeWhile (Range ℕ) F) (from last r : ℕ)

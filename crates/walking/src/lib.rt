@@ -158,9 +158,11 @@ fn own_rows(properties: &[u32], row: usize, first: usize, last: usize) -> usize
     requires { last ≤ length properties.now / property_size }
     ensures { result ≡ tally (owned_by row) (take (last - first) (drop first (properties_in properties.now))) }
 {
-    (first..last)
-        .filter(|i| PropertyRow::at(properties, *i).owner as usize == row)
-        .count()
+    let mut own: usize = 0;
+    for i in first..last {
+        own += usize::from(PropertyRow::at(properties, i).owner as usize == row);
+    }
+    own
 }
 
 // Whether every property stands in its owner's window. The windows are gone through in the order of the components, and their first rows only rise.
