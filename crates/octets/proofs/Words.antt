@@ -2,9 +2,11 @@
 use mathlib.Core.Path.{◌≡◌, refl, sym, ap, ◌∙◌}
 use mathlib.Core.Bool.{Bool, true, false, ◌&&◌, false≢true}
 use mathlib.Core.List.{List, [], ◌∷◌, ◌++◌, map, map-append}
-use Prim.Native.Nat.{ℕ, suc, ◌≤◌, ◌<◌, zero-le, suc-le-suc}
+use Prim.Native.Nat.{ℕ, suc, ◌+◌, ◌≤◌, ◌<◌, zero-le, suc-le-suc}
+use native.Mathlib.Numerals.{add-one}
 use native.Mathlib.Omega.{arith}
-use lib.ListN.{length, take, drop, take-append-drop, length-map}
+use lib.ListN.{length, get_or, take, drop, drop_of_length-le, take-append-drop, length-map}
+use lib.Seq.{drop-cons}
 use lib.Dec.{eqb}
 use borrow.Author.Tests.{eqb-true, eq-eqb}
 use lib.Dec.{leb}
@@ -77,6 +79,16 @@ word_rest xs ys n e =
   where
     parts : (zs : List ℕ) → map lowered (take n zs) ++ map lowered (drop n zs) ≡ map lowered zs
     parts zs = sym (map-append lowered (take n zs) (drop n zs)) ∙ ap (map lowered) (take-append-drop n zs)
+
+-- words, letter by letter
+pub word_turn : (xs ys : List ℕ) (i : ℕ) → i < length xs → i < length ys
+    → same_word (drop i xs) (drop i ys) ≡ eqb (lowered (get_or xs i 0)) (lowered (get_or ys i 0)) && same_word (drop (i + 1) xs) (drop (i + 1) ys)
+unfolding same_bytes
+word_turn xs ys i h k = rw (drop-cons xs i 0 h, drop-cons ys i 0 k, add-one)
+
+pub word_ended : (xs ys : List ℕ) (i : ℕ) → length xs ≤ i → length ys ≤ i → same_word (drop i xs) (drop i ys) ≡ true
+unfolding same_bytes
+word_ended xs ys i h k = rw (drop_of_length-le xs h, drop_of_length-le ys k)
 
 pub equal_words : (xs ys : List ℕ) → same_bytes xs ys ≡ true → same_word xs ys ≡ true
 equal_words xs ys e = ap (λ (zs : List ℕ). same_word zs ys) (same_eq xs ys e) ∙ same_refl (map lowered ys)

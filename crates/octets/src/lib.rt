@@ -2,7 +2,7 @@
 #![tactic(auto)]
 
 ghost use Rattle.std.specs.Prelude.{◌≡◌, ℕ, Bool, List, ◌<◌, false, ◌∷◌, [], ◌++◌, ◌+◌, ◌≤◌, length, get_or, take, drop, eqb, leb, ltb};
-ghost use Rattle.octets.specs.Bytes.{capital, common, key_byte, other};
+ghost use Rattle.octets.specs.Bytes.{capital, common, key_byte, lowered, other};
 ghost use Rattle.octets.specs.Laid.{laid, counted, Lays, LaysEach};
 ghost use Rattle.octets.specs.Answers.{answer_number, done, output, room_answer, out_after};
 ghost use Rattle.octets.specs.Runs.{run};
@@ -348,16 +348,26 @@ pub fn same_bytes(a: &[u8], b: &[u8]) -> bool
     a.len() - n < 8 && a[n..] == b[n..]
 }
 
-// Whether two words are the same, in any case of their letters.
+// Whether two bytes are the same, in any case if they are letters. Those of words that are the same mostly are the same byte.
+fn same_letter(a: u8, b: u8) -> bool
+    ensures { result ≡ eqb (lowered a) (lowered b) }
+{
+    a == b || a.to_ascii_lowercase() == b.to_ascii_lowercase()
+}
+
+// Whether two words are the same, in any case of their letters. One loop: many that are asked for differ, and a second look would cost as much again.
 pub fn same_word(a: &[u8], b: &[u8]) -> bool
     ensures { result ≡ same_word a.now b.now }
 {
     if a.len() != b.len() {
         return false;
     }
-    let n = same_eights(a, b);
-    // Words that are the same mostly have the same bytes, which is seen faster.
-    a[n..] == b[n..] || a[n..].eq_ignore_ascii_case(&b[n..])
+    for i in same_eights(a, b)..a.len() {
+        if !same_letter(a[i], b[i]) {
+            return false;
+        }
+    }
+    true
 }
 
 // Whether the line starts with the word, in any case of its letters.

@@ -1,25 +1,31 @@
-use Rattle.std.proofs.Common.{◌≡◌, sym, ◌∙◌, drop, take, length, ◌-◌}
-use Rattle.octets.specs.Words.{same_bytes}
-use Rattle.octets.proofs.Lists.{lent}
-use Rattle.octets.proofs.Words.{unlike_word, equal_words, word_rest, same_small, pointwise_same}
+-- One turn compares a letter, and then what is left.
+use Rattle.std.proofs.Common.{sym, ap, ◌∙◌, ◌+◌, drop, arith}
+use mathlib.Core.Bool.{Bool, ◌&&◌}
+use Rattle.octets.specs.Words.{same_word}
+use Rattle.octets.proofs.Words.{unlike_word, word_rest, word_turn, word_ended}
 use Rattle.octets.proofs.same_word.Goals as goal
 
 pub returns-then-a-b : goal.returns-then-a-b
 returns-then-a-b c = sym (unlike_word c.args.a.now c.args.b.now c.if-a-b.true)
 
-pub returns-then-eq : goal.returns-then-eq
-returns-then-eq c =
-    let n = c.same_eights-n.result in
-    let a = c.args.a.now in
-    let b = c.args.b.now in
-    let told : c.eq.result ≡ same_bytes (drop n a) (drop n b) = c.eq.ensures ∙ (rw (lent a n, lent b n) (pointwise_same (drop n a) (drop n b))) in
-    c.if-eq.true
-    ∙ (sym (equal_words (drop n a) (drop n b) (sym told ∙ c.if-eq.true)) ∙ word_rest a b n c.same_eights-n.ensures.same_so_far.1)
+pub loop-i-init : goal.loop-i-init
+loop-i-init c = word_rest c.args.a.now c.args.b.now c.same_eights-i.result c.same_eights-i.ensures.same_so_far.1
 
-pub returns-else-eq : goal.returns-else-eq
-returns-else-eq c =
-    let n = c.same_eights-n.result in
+pub returns-then-not-same_letter : goal.returns-then-not-same_letter
+returns-then-not-same_letter c =
     let a = c.args.a.now in
     let b = c.args.b.now in
-    same_small (take (length a - n) (drop n a)) (take (length b - n) (drop n b)) c.eq_ignore_ascii_case.ensures.test
-    ∙ (rw (lent a n, lent b n) (word_rest a b n c.same_eights-n.ensures.same_so_far.1))
+    let i = c.loop-i.i in
+    ap (λ (t : Bool). t && same_word (drop (i + 1) a) (drop (i + 1) b)) (sym c.if-not-same_letter.true ∙ c.same_letter.ensures)
+    ∙ (sym (word_turn a b i (omega arith) (omega arith)) ∙ c.loop-i.invariant)
+
+pub loop-i-preserved : goal.loop-i-preserved
+loop-i-preserved c =
+    let a = c.args.a.now in
+    let b = c.args.b.now in
+    let i = c.loop-i.i in
+    ap (λ (t : Bool). t && same_word (drop (i + 1) a) (drop (i + 1) b)) (sym c.if-not-same_letter.false ∙ c.same_letter.ensures)
+    ∙ (sym (word_turn a b i (omega arith) (omega arith)) ∙ c.loop-i.invariant)
+
+pub returns : goal.returns
+returns c = sym (word_ended c.args.a.now c.args.b.now c.loop-i.i (omega arith) (omega arith)) ∙ c.loop-i.invariant
