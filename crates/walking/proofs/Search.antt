@@ -36,6 +36,7 @@ one_more : (t : Bool) {m n : ℕ} → m ≡ n → cond t (1 + m) 0 ≡ pick t (s
 one_more true e = omega arith
 one_more false e = refl
 
+-- what a row adds to a count
 pub one_at_most : (t : Bool) → bool_byte t ≤ 1
 one_at_most true = omega arith
 one_at_most false = omega arith

@@ -158,6 +158,7 @@ fn own_rows(properties: &[u32], row: usize, first: usize, last: usize) -> usize
     requires { last ≤ length properties.now / property_size }
     ensures { result ≡ tally (owned_by row) (take (last - first) (drop first (properties_in properties.now))) }
 {
+    // A loop, as a filter that is counted goes row by row where this takes four at a time.
     let mut own: usize = 0;
     for i in first..last {
         own += usize::from(PropertyRow::at(properties, i).owner as usize == row);
